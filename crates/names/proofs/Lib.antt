@@ -1,0 +1,9 @@
+pub mod Comparing
+pub mod Tables
+pub mod Replies
+pub mod Rules
+pub mod Numbers
+pub mod Spelling
+pub mod Following
+pub mod Walking
+pub mod Checking

@@ -1,0 +1,93 @@
+-- `decode` gives the node exactly where the words are its own and it may stand there, and else the first of 3, 4 and 5 that is true.
+use Prim.Native.Nat.{ℕ}
+use mathlib.Core.Path.{_≡_, refl, sym, ap, _∙_}
+use mathlib.Core.Bool.{Bool, true, false, _&&_}
+use mathlib.Core.List.{List}
+use native.Mathlib.Omega.{arith}
+use Rattle.types.specs.Same.{same-numbers}
+use Rattle.types.specs.Out.{Out, ok, refuse}
+use Rattle.types.specs.Node.{Node, tag, names, encode, formed, linked, rising, well, guess, is-words, decode, IsNode}
+use Rattle.types.proofs.Tests.{true-false, and-true, both, not-true, numbers-true, numbers-if}
+use Rattle.types.proofs.Nodes.{guess-encode}
+
+-- ---- the three parts of `well`
+pub record Well (table nodes : ℕ) (x : Node) : Type 0 where
+  pub formed-so : formed x ≡ true
+  pub linked-so : linked table nodes x ≡ true
+  pub rising-so : rising (names (tag x)) ≡ true
+
+module _ (table nodes : ℕ) (x : Node) where
+  pub well-parts : well table nodes x ≡ true → Well table nodes x
+  unfolding well
+  well-parts e =
+      let p = and-true (formed x) _ e in
+      let q = and-true (linked table nodes x) _ (p .1) in
+      record { formed-so = p .0; linked-so = q .0; rising-so = q .1 }
+
+  pub parts-well : Well table nodes x → well table nodes x ≡ true
+  unfolding well
+  parts-well W = both (W .formed-so) (both (W .linked-so) (W .rising-so))
+
+-- ---- words of a formed node
+pub is-words-yes : (ws : List ℕ) (x : Node) → formed x ≡ true → ws ≡ encode x → is-words ws x ≡ true
+unfolding is-words
+is-words-yes ws x e q = both e (numbers-if ws (encode x) q)
+
+pub words-is : (ws : List ℕ) (x : Node) → is-words ws x ≡ true → (formed x ≡ true) × (ws ≡ encode x)
+unfolding is-words
+words-is ws x e = let p = and-true (formed x) _ e in (p .0, numbers-true ws (encode x) (p .1))
+
+pub guess-words : (ws : List ℕ) (x : Node) → formed x ≡ true → ws ≡ encode x → guess ws ≡ x
+guess-words ws x e q = ap guess q ∙ guess-encode x e
+
+-- ---- decode, case by case
+unfoldable pub answer : Node → Bool → Bool → Bool → Out Node
+answer x b l r = elim b [ false ↦ refuse 3 | true ↦ elim l [ false ↦ refuse 4 | true ↦ elim r [ false ↦ refuse 5 | true ↦ ok x ] ] ]
+
+module _ (table nodes : ℕ) (ws : List ℕ) where
+  pub by-guess : decode table nodes ws ≡ answer (guess ws) (is-words ws (guess ws)) (linked table nodes (guess ws)) (rising (names (tag (guess ws))))
+  unfolding decode answer
+  by-guess = refl
+
+  -- no formed node has these words
+  pub decode-three : ((x : Node) → formed x ≡ true → ws ≡ encode x → ⊥) → decode table nodes ws ≡ refuse 3
+  unfolding answer
+  decode-three f = by-guess ∙ rw (not-true (is-words ws (guess ws)) (λ e. let p = words-is ws (guess ws) e in f (guess ws) (p .0) (p .1)))
+
+  module _ (x : Node) (e : formed x ≡ true) (q : ws ≡ encode x) where
+    by-node : decode table nodes ws ≡ answer x true (linked table nodes x) (rising (names (tag x)))
+    by-node =
+        by-guess
+        ∙ ap (λ (y : Node). answer y (is-words ws y) (linked table nodes y) (rising (names (tag y)))) (guess-words ws x e q)
+        ∙ ap (λ (b : Bool). answer x b (linked table nodes x) (rising (names (tag x)))) (is-words-yes ws x e q)
+
+    pub decode-four : linked table nodes x ≡ false → decode table nodes ws ≡ refuse 4
+    unfolding answer
+    decode-four l = by-node ∙ rw l
+
+    pub decode-five : linked table nodes x ≡ true → rising (names (tag x)) ≡ false → decode table nodes ws ≡ refuse 5
+    unfolding answer
+    decode-five l r = by-node ∙ rw (l, r)
+
+    decode-node : linked table nodes x ≡ true → rising (names (tag x)) ≡ true → decode table nodes ws ≡ ok x
+    unfolding answer
+    decode-node l r = by-node ∙ rw (l, r)
+
+  -- decode after encode
+  pub decode-ok : (x : Node) → IsNode table nodes ws x → decode table nodes ws ≡ ok x
+  decode-ok x N = let W = well-parts table nodes x (N .good) in decode-node x (W .formed-so) (N .words) (W .linked-so) (W .rising-so)
+
+  -- encode after decode
+  pub ok-decode : (x : Node) → decode table nodes ws ≡ ok x → IsNode table nodes ws x
+  unfolding answer
+  ok-decode x e = go (is-words ws (guess ws)) refl (linked table nodes (guess ws)) refl (rising (names (tag (guess ws)))) refl (sym by-guess ∙ e)
+    where
+      go : (b : Bool) → is-words ws (guess ws) ≡ b → (l : Bool) → linked table nodes (guess ws) ≡ l → (r : Bool) → rising (names (tag (guess ws))) ≡ r → answer (guess ws) b l r ≡ ok x → IsNode table nodes ws x
+      go false p l q r s h = let z : _≡_ {A = ℕ} 0 1 = cc in absurd (omega arith)
+      go true p false q r s h = let z : _≡_ {A = ℕ} 0 1 = cc in absurd (omega arith)
+      go true p true q false s h = let z : _≡_ {A = ℕ} 0 1 = cc in absurd (omega arith)
+      go true p true q true s h =
+          let g : guess ws ≡ x = cc in
+          let w = words-is ws (guess ws) p in
+          let W : Well table nodes (guess ws) = record { formed-so = w .0; linked-so = q; rising-so = s } in
+          record { words = w .1 ∙ ap encode g; good = rw (← g) (parts-well table nodes (guess ws) W) }

@@ -1,0 +1,16 @@
+pub mod Same
+pub mod Order
+pub mod Out
+pub mod Bytes
+pub mod Decimal
+pub mod Short
+pub mod Tyvar
+pub mod Primitive
+pub mod Parens
+pub mod Kind
+pub mod Node
+pub mod Fault
+pub mod Arena
+pub mod Places
+pub mod Memory
+pub mod Reply

@@ -1,0 +1,4 @@
+// The words of an arena, field by field, under the names of the Rust's files: `arc_ty` has heads and children, `attrset` the
+// fields of a set. No other crate knows a bit position. `types` passes all of it on.
+pub mod arc_ty;
+pub mod attrset;

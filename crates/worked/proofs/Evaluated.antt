@@ -1,0 +1,27 @@
+-- Every case of each list holds, by evaluation.
+use mathlib.Core.Path.{_≡_, refl}
+use mathlib.Core.List.{map}
+use mathlib.Core.Option.{none, some}
+use Rattle.types.specs.Tyvar.{tyvar-name}
+use Rattle.words.specs.Words.{head-word}
+use Rattle.types.specs.Node.{head-of, child-words, decode}
+use Rattle.types.specs.Fault.{fault}
+use Rattle.types.specs.Memory.{arena-of}
+use Rattle.worked.specs.Worked.{Case, worked, judged, sheet, held}
+
+pub worked-so : map (λ (c : Case). c .gives) worked ≡ map (λ (c : Case). c .says) worked
+unfolding tyvar-name
+worked-so = refl
+
+pub judged-so : map (λ (c : Case). c .gives) judged ≡ map (λ (c : Case). c .says) judged
+unfolding decode fault head-of head-word child-words
+judged-so = refl
+
+-- 01's words hold its arena, and with a second variable 0 in place of int they hold none
+pub sheet-held : held 0x20000001 2 ≡ some sheet
+unfolding arena-of head-of head-word child-words
+sheet-held = refl
+
+pub repeat-refused : held 0x30000001 0 ≡ none
+unfolding arena-of head-of head-word child-words
+repeat-refused = refl

@@ -1,0 +1,90 @@
+-- The worked types of document 01 that are to be proved (those with a star), and words for each of its sentences on a node.
+use Prim.Native.Nat.{ℕ}
+use Prim.Native.String.{String}
+use mathlib.Core.List.{List, [], _∷_}
+use mathlib.Core.Option.{Option}
+use lib.ListN.{replicate}
+use Rattle.types.specs.Bytes.{bytes}
+use Rattle.types.specs.Out.{number}
+use Rattle.types.specs.Tyvar.{tyvar-name}
+use Rattle.types.specs.Node.{positive, primitive, members, var, form, node, decode}
+use Rattle.types.specs.Fault.{fault}
+use Rattle.types.specs.Arena.{Arena}
+use Rattle.types.specs.Memory.{arena-of}
+
+-- what the definitions give, and what 01 says
+pub record Case : Type 0 where
+  pub gives : List ℕ
+  pub says : List ℕ
+
+-- a variable is printed so
+abbrev prints : ℕ → String → Case
+prints v t = record { gives = tyvar-name v; says = bytes t }
+
+-- (01, "Worked types")
+abbrev pub worked : List Case
+worked = prints 25 "z" ∷ prints 26 "a1" ∷ prints 4294967294 "u165191049" ∷ prints 4294967295 "?" ∷ []
+
+-- words that are to be a node after three others, under a table of two names; `decode` and the sentences agree on the number, 0 for none
+abbrev judges : List ℕ → ℕ → Case
+judges ws n = record { gives = number (decode 2 3 ws) ∷ fault 2 3 ws ∷ []; says = n ∷ n ∷ [] }
+
+-- what 01 says of a node's words ("Words of the arena"), a sentence at a time
+abbrev pub judged : List Case
+judged =
+    -- every kind once, with flags and fields at their limits
+    judges (0x00000000 ∷ []) 0
+    ∷ judges (0x10000000 ∷ []) 0
+    ∷ judges (0x20000001 ∷ 7 ∷ []) 0
+    ∷ judges (0x30000001 ∷ 0xffffffff ∷ []) 0
+    ∷ judges (0x40000001 ∷ 2 ∷ []) 0
+    ∷ judges (0x50000002 ∷ 0 ∷ 1 ∷ []) 0
+    ∷ judges (0x60000000 ∷ []) 0
+    ∷ judges (0x6c000003 ∷ 0x80000000 ∷ 0x00800002 ∷ 1 ∷ []) 0
+    ∷ judges (0x70000040 ∷ replicate 64 0) 0
+    ∷ judges (0x80000002 ∷ 1 ∷ 1 ∷ []) 0
+    ∷ judges (0x90000001 ∷ 0x00800002 ∷ []) 0
+    ∷ judges (0xa0000001 ∷ 0 ∷ []) 0
+    -- an empty node; a kind above 10
+    ∷ judges [] 3
+    ∷ judges (0xb0000000 ∷ []) 3
+    -- a count that doesn't fit the kind, or the words that follow
+    ∷ judges (0x00000001 ∷ 0 ∷ []) 3
+    ∷ judges (0x20000000 ∷ []) 3
+    ∷ judges (0x50000001 ∷ 0 ∷ []) 3
+    ∷ judges (0x64000000 ∷ []) 3
+    ∷ judges (0x70000000 ∷ []) 3
+    ∷ judges (0x70000041 ∷ replicate 65 0) 3
+    ∷ judges (0x64000042 ∷ replicate 66 0) 3
+    ∷ judges (0x40000001 ∷ []) 3
+    ∷ judges (0x40000001 ∷ 0 ∷ 0 ∷ []) 3
+    -- a code above 7; open or dynamic outside a set; `Named` with optional 1
+    ∷ judges (0x20000001 ∷ 8 ∷ []) 3
+    ∷ judges (0x48000001 ∷ 0 ∷ []) 3
+    ∷ judges (0x44000001 ∷ 0 ∷ []) 3
+    ∷ judges (0x90000001 ∷ 0x80000000 ∷ []) 3
+    -- a zero field that isn't zero: of a head, a child word, a field word, a set's last word
+    ∷ judges (0x40010001 ∷ 0 ∷ []) 3
+    ∷ judges (0x40000001 ∷ 0x1000 ∷ []) 3
+    ∷ judges (0x60000001 ∷ 0x1000 ∷ []) 3
+    ∷ judges (0x64000001 ∷ 0x00800000 ∷ []) 3
+    -- a child not below the count; a name not in the table
+    ∷ judges (0x40000001 ∷ 3 ∷ []) 4
+    ∷ judges (0x60000001 ∷ 0x00000003 ∷ []) 4
+    ∷ judges (0x60000001 ∷ 0x01000000 ∷ []) 4
+    ∷ judges (0x90000001 ∷ 0x01000000 ∷ []) 4
+    -- names that don't rise
+    ∷ judges (0x60000002 ∷ 0x00800000 ∷ 0x00000000 ∷ []) 5
+    ∷ judges (0x60000002 ∷ 0x00000000 ∷ 0x80000000 ∷ []) 5
+    -- any 3 before any 4, and that before 5
+    ∷ judges (0x70000002 ∷ 3 ∷ 0x1000 ∷ []) 3
+    ∷ judges (0x60000002 ∷ 0x00800000 ∷ 0x00000003 ∷ []) 4
+    ∷ []
+
+-- the arena of 01's sheet: a, int, and their union
+abbrev pub sheet : Arena
+sheet = node (members positive) (0 ∷ 1 ∷ []) ∷ node (form (primitive 2)) [] ∷ node (var 0) [] ∷ []
+
+-- what eight lent words, four lent starts and counters hold, where these are the words of node 1
+abbrev pub held : ℕ → ℕ → Option Arena
+held h v = arena-of 0 (0x30000001 ∷ 0 ∷ h ∷ v ∷ 0x70000002 ∷ 0 ∷ 1 ∷ 0 ∷ []) (0 ∷ 2 ∷ 4 ∷ 0 ∷ []) (record { nodes = 3; words = 7 })

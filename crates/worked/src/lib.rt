@@ -1,0 +1,1 @@
+// The worked types of document 01, evaluated by the definitions: specs/Worked.antt has the lists, proofs/Evaluated.antt their theorems.
