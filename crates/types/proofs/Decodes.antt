@@ -5,7 +5,7 @@ use mathlib.Core.Bool.{Bool, true, false, _&&_}
 use mathlib.Core.List.{List}
 use native.Mathlib.Omega.{arith}
 use Rattle.types.specs.Same.{same-numbers}
-use Rattle.types.specs.Out.{Out, ok, refuse}
+use Rattle.types.specs.Out.{Out, ok, refuse, number}
 use Rattle.types.specs.Node.{Node, tag, names, encode, formed, linked, rising, well, guess, is-words, decode, IsNode}
 use Rattle.types.proofs.Tests.{true-false, and-true, both, not-true, numbers-true, numbers-if}
 use Rattle.types.proofs.Nodes.{guess-encode}
@@ -91,3 +91,30 @@ module _ (table nodes : ℕ) (ws : List ℕ) where
           let w = words-is ws (guess ws) p in
           let W : Well table nodes (guess ws) = record { formed-so = w .0; linked-so = q; rising-so = s } in
           record { words = w .1 ∙ ap encode g; good = rw (← g) (parts-well table nodes (guess ws) W) }
+
+-- ---- decode by its number, 0 for a node
+pub record Faultless (table nodes : ℕ) (ws : List ℕ) : Type 0 where
+  pub node : Node
+  pub is : IsNode table nodes ws node
+
+pub faultless : (table nodes : ℕ) (ws : List ℕ) → number (decode table nodes ws) ≡ 0 → Faultless table nodes ws
+unfolding answer
+faultless table nodes ws e = go (is-words ws (guess ws)) refl (linked table nodes (guess ws)) refl (rising (names (tag (guess ws)))) refl (ap number (sym (by-guess table nodes ws)) ∙ e)
+  where
+    go : (b : Bool) → is-words ws (guess ws) ≡ b → (l : Bool) → linked table nodes (guess ws) ≡ l → (r : Bool) → rising (names (tag (guess ws))) ≡ r → number (answer (guess ws) b l r) ≡ 0 → Faultless table nodes ws
+    go false p l q r s h = absurd (omega arith)
+    go true p false q r s h = absurd (omega arith)
+    go true p true q false s h = absurd (omega arith)
+    go true p true q true s h =
+        let w = words-is ws (guess ws) p in
+        record {
+          node = guess ws;
+          is = record { words = w .1; good = parts-well table nodes (guess ws) (record { formed-so = w .0; linked-so = q; rising-so = s }) };
+        }
+
+pub faulty : (table nodes : ℕ) (ws : List ℕ) → (number (decode table nodes ws) ≡ 0 → ⊥) → decode table nodes ws ≡ refuse (number (decode table nodes ws))
+faulty table nodes ws f = go (decode table nodes ws) f
+  where
+    go : (o : Out Node) → (number o ≡ 0 → ⊥) → o ≡ refuse (number o)
+    go (ok x) g = absurd (g refl)
+    go (refuse m) g = refl

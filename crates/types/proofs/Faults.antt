@@ -15,7 +15,7 @@ use Rattle.types.specs.Kind.{Kind, disc, kind-of, body-count, Body, body
 use Rattle.types.specs.Out.{number}
 use Rattle.types.specs.Node.{positive, negative, Field, field, primitive, list, lambda, attrset, named, Tag, members, bound, var, neg, form, Node, node, tag, children, kind, Data, nothing, data-of, field-names, names, child-words, body, head-of, encode, below, matched, formed, linked, rising, field-of, tag-of, children-of, guess-kind, guess, is-words, decode}
 use Rattle.types.specs.Fault.{flags-fit, kind-fits, head-fits, field-part, child-part, own-fits, each-zero, body-fits, kind-body-fits, fits, kind-children, kind-names, children-in, names-in, fault}
-use Rattle.types.proofs.Tests.{true-false, and-true, both}
+use Rattle.types.proofs.Tests.{true-false, and-true, both, same-truth}
 use Rattle.types.proofs.Lists.{below-cons, below-map}
 use Rattle.types.proofs.KindNumbers.{kind-of-disc, disc-kind-of}
 use Rattle.words.proofs.Words.{head-of-fields, field-of-fields, field-optional-made, field-zero-made, child-zero-made, child-of-fields}
@@ -273,11 +273,6 @@ fit-words h b l F =
     = sym (head-of-fields h (F .zeros)) ∙ (λ i. head-word (disc-kind-of (head-kind h) k (F .kinded) i) o d (sym (F .long) i)) in
     let w = made-words h k o d b t cs q M in
     rw e (is-words-yes (h ∷ b) (node t cs) (made-formed o d b l k t cs (F .counted) M) w)
-
-pub same-truth : (x y : Bool) → (x ≡ true → y ≡ true) → (y ≡ true → x ≡ true) → x ≡ y
-same-truth true y f g = sym (f refl)
-same-truth false true f g = g refl
-same-truth false false f g = refl
 
 -- number 3, both ways
 pub fits-words : (ws : List ℕ) → below (2 ^ 32) ws ≡ true → is-words ws (guess ws) ≡ fits ws

@@ -92,7 +92,8 @@ module _ {table : ℕ} {w s : List ℕ} {c : Counters} {a : Arena} where
       go true q p = let r : read (c .nodes) w [] ≡ a = cc in true-holds (rw r at q)
       go false q p = let z : _≡_ {A = ℕ} 0 1 = cc in absurd (omega arith)
 
-pub unique : {table : ℕ} {w s : List ℕ} {c : Counters} {a b : Arena} → Holds table w s c a → Holds table w s c b → a ≡ b
+-- whatever the tables
+pub unique : {t u : ℕ} {w s : List ℕ} {c : Counters} {a b : Arena} → Holds t w s c a → Holds u w s c b → a ≡ b
 unique H K = sym (read-holds H) ∙ read-holds K
 
 pub unsound : {table : ℕ} {w s : List ℕ} {c : Counters} → ((a : Arena) → Holds table w s c a → ⊥) → arena-of table w s c ≡ none

@@ -20,6 +20,12 @@ pub not-true : (x : Bool) → (x ≡ true → ⊥) → x ≡ false
 not-true true f = absurd (f refl)
 not-true false f = refl
 
+-- two tests that say the same are equal
+pub same-truth : (x y : Bool) → (x ≡ true → y ≡ true) → (y ≡ true → x ≡ true) → x ≡ y
+same-truth true y f g = sym (f refl)
+same-truth false true f g = g refl
+same-truth false false f g = refl
+
 -- ---- the test for equality holds exactly for equal things
 module _ {A : Type 0} (d : Discrete A) where
   pub same-true : (x y : A) → same d x y ≡ true → x ≡ y

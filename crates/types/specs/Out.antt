@@ -16,3 +16,9 @@ required e (some a) f = f a
 abbrev pub number : {A : Type 0} → Out A → ℕ
 number (ok a) = 0
 number (refuse e) = e
+
+-- the next step of a call, unless it is refused
+infixl 20 _>>=_
+unfoldable pub _>>=_ : {A B : Type 0} → Out A → (A → Out B) → Out B
+ok a >>= f = f a
+refuse e >>= f = refuse e

@@ -1,0 +1,50 @@
+-- 1 and 2 are the verdict's; what follows them is that of `intern_words`.
+use Rattle.arena.proofs.Answers.{host-refused, host-under, host-words}
+use borrow.Author.Needs.{needs}
+use Rattle.arena.proofs.intern.Statement.{statement}
+use Rattle.arena.proofs.intern.Tie as tie
+
+judge-requires : tie.Need-judge-requires
+judge-requires c κs = search needs
+
+enum-known-lent : tie.Need-enum-known-lent
+enum-known-lent c = search needs
+
+intern-words-requires : tie.Need-intern-words-requires
+intern-words-requires c κs = search host-under
+
+enum-known-lent-2 : tie.Need-enum-known-lent-2
+enum-known-lent-2 c = search needs
+
+same-length : tie.Need-same-length
+same-length c = search needs
+
+same-length-2 : tie.Need-same-length-2
+same-length-2 c = search needs
+
+returns : tie.Need-returns
+returns c = search host-words
+
+same-length-3 : tie.Need-same-length-3
+same-length-3 c = search needs
+
+same-length-4 : tie.Need-same-length-4
+same-length-4 c = search needs
+
+returns-2 : tie.Need-returns-2
+returns-2 c = search host-refused
+
+pub intern-spec : {M : Type 1} → statement M
+intern-spec =
+    tie.close
+    (tie.spec
+    judge-requires
+    enum-known-lent
+    intern-words-requires
+    enum-known-lent-2
+    same-length
+    same-length-2
+    returns
+    same-length-3
+    same-length-4
+    returns-2)

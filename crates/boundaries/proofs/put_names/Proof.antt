@@ -1,0 +1,92 @@
+-- The invariant: i names of three bytes each are written, within the table.
+use Prim.Native.Nat.{_*_, _-_, _≤_}
+use mathlib.Core.Path.{_≡_}
+use lib.ListN.{length}
+use borrow.Author.Needs.{needs}
+use Rattle.boundaries.proofs.put_names.Statement.{statement}
+use Rattle.boundaries.proofs.put_names.Tie as tie
+
+abbrev Inv-loop : tie.InvT-loop
+Inv-loop table₀ count i₀ at₀ table i at = (i ≤ 300) × (at ≡ 3 * i) × (length table ≡ length table₀)
+
+abbrev μ-loop : tie.MeasureT-loop
+μ-loop table₀ count i₀ at₀ table i at = count - i
+
+loop-holds : tie.Need-loop-holds Inv-loop μ-loop
+loop-holds c = search needs
+
+same-length : tie.Need-same-length Inv-loop μ-loop
+same-length c = search needs
+
+returns : tie.Need-returns Inv-loop μ-loop
+returns c = search needs
+
+set-byte-requires : tie.Need-set-byte-requires Inv-loop μ-loop
+set-byte-requires c κs = search needs
+
+add-set-byte : tie.Need-add-set-byte Inv-loop μ-loop
+add-set-byte c = search needs
+
+cast-set-byte : tie.Need-cast-set-byte Inv-loop μ-loop
+cast-set-byte c = search needs
+
+add-set-byte-2 : tie.Need-add-set-byte-2 Inv-loop μ-loop
+add-set-byte-2 c = search needs
+
+set-byte-requires-2 : tie.Need-set-byte-requires-2 Inv-loop μ-loop
+set-byte-requires-2 c κs = search needs
+
+add-set-byte-3 : tie.Need-add-set-byte-3 Inv-loop μ-loop
+add-set-byte-3 c = search needs
+
+cast-set-byte-2 : tie.Need-cast-set-byte-2 Inv-loop μ-loop
+cast-set-byte-2 c = search needs
+
+add-set-byte-4 : tie.Need-add-set-byte-4 Inv-loop μ-loop
+add-set-byte-4 c = search needs
+
+set-byte-requires-3 : tie.Need-set-byte-requires-3 Inv-loop μ-loop
+set-byte-requires-3 c κs = search needs
+
+add-at : tie.Need-add-at Inv-loop μ-loop
+add-at c = search needs
+
+add-i : tie.Need-add-i Inv-loop μ-loop
+add-i c = search needs
+
+loop-less : tie.Need-loop-less Inv-loop μ-loop
+loop-less c = search needs
+
+loop-again : tie.Need-loop-again Inv-loop μ-loop
+loop-again c = search needs
+
+same-length-2 : tie.Need-same-length-2 Inv-loop μ-loop
+same-length-2 c = search needs
+
+returns-2 : tie.Need-returns-2 Inv-loop μ-loop
+returns-2 c = search needs
+
+pub put-names-spec : {M : Type 1} → statement M
+put-names-spec =
+    tie.close
+    (tie.spec
+    Inv-loop
+    μ-loop
+    loop-holds
+    same-length
+    returns
+    set-byte-requires
+    add-set-byte
+    cast-set-byte
+    add-set-byte-2
+    set-byte-requires-2
+    add-set-byte-3
+    cast-set-byte-2
+    add-set-byte-4
+    set-byte-requires-3
+    add-at
+    add-i
+    loop-less
+    loop-again
+    same-length-2
+    returns-2)

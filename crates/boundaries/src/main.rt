@@ -1,0 +1,389 @@
+// `intern` at its limits: what is just taken, and one past it what is refused. It prints a line a call: the node's number and
+// the counters after, or the number of the refusal. Words that are no node's are written out; all others go through `Head` and
+// `field_word`.
+use arena::added::Interned;
+use arena::intern;
+use types::Counters;
+use types::arc_ty::Head;
+use types::attrset::field_word;
+
+fn print(n: usize) {
+    io::print_decimal(1, n as u64);
+}
+
+fn said(n: u32) {
+    io::print_decimal(1, n as u64);
+}
+
+// Prints what a call answered.
+fn tell(label: &[u8], r: Interned) {
+    io::write_all(1, label);
+    match r {
+        Interned::Node(n, d) => {
+            io::write_all(1, b": ");
+            said(n);
+            io::write_all(1, b" ");
+            print(d.nodes);
+            io::write_all(1, b" ");
+            print(d.words);
+            io::write_all(1, b"\n");
+        }
+        Interned::Refused(e) => {
+            io::write_all(1, b": refused ");
+            said(e);
+            io::write_all(1, b"\n");
+        }
+    }
+}
+
+fn set(words: &mut [u32], at: usize, value: u32) {
+    if at < words.len() {
+        words[at] = value;
+    }
+}
+
+fn set_byte(table: &mut [u8], at: usize, value: u8) {
+    if at < table.len() {
+        table[at] = value;
+    }
+}
+
+fn head(kind: u32, count: usize) -> u32 {
+    if kind <= Head::NEG {
+        if count <= 66 {
+            return Head::new(kind, false, false, count).word;
+        }
+    }
+    0
+}
+
+// The variables 0, 1, .., two words each.
+fn put_vars(words: &mut [u32], starts: &mut [u32], count: usize) {
+    let top = head(Head::TY_VAR, 1);
+    let mut i: usize = 0;
+    let mut at: usize = 0;
+    while i < count {
+        if 4096 <= i {
+            return;
+        }
+        set(words, at, top);
+        set(words, at + 1, i as u32);
+        set(starts, i, at as u32);
+        at += 2;
+        i += 1;
+    }
+}
+
+// A union of 64 members, each node 0 or 1 by the bits of `pattern`.
+fn put_union(words: &mut [u32], at: usize, pattern: usize) {
+    if 16384 <= at {
+        return;
+    }
+    set(words, at, head(Head::UNION, 64));
+    let mut rest = pattern;
+    let mut i = 0;
+    while i < 64 {
+        set(words, at + 1 + i, (rest % 2) as u32);
+        rest = rest / 2;
+        i += 1;
+    }
+}
+
+// After the variables 0 and 1, so many different unions of 65 words each.
+fn put_unions(words: &mut [u32], starts: &mut [u32], count: usize) {
+    put_vars(words, starts, 2);
+    let mut i: usize = 0;
+    let mut at: usize = 4;
+    while i < count {
+        if 252 <= i {
+            return;
+        }
+        put_union(words, at, i);
+        set(starts, i + 2, at as u32);
+        at += 65;
+        i += 1;
+    }
+}
+
+// The names of two bytes, in their order.
+fn put_names(table: &mut [u8], count: usize) {
+    let mut i: usize = 0;
+    let mut at: usize = 0;
+    while i < count {
+        if 300 <= i {
+            return;
+        }
+        set_byte(table, at, 2);
+        set_byte(table, at + 1, 32 + (i / 90 % 90) as u8);
+        set_byte(table, at + 2, 32 + (i % 90) as u8);
+        at += 3;
+        i += 1;
+    }
+}
+
+// Number 1: a table of 256 names is taken, and one of 257 is not; nor is a byte 127, a name of no byte, or a name twice.
+fn tables() {
+    let mut words = [0u32; 8];
+    let mut starts = [0u32; 4];
+    let none = Counters { nodes: 0, words: 0 };
+    let node = [head(Head::TY_VAR, 1), 7];
+    let mut most = [0u8; 768];
+    put_names(&mut most, 256);
+    tell(
+        b"256 names",
+        intern(&most, &mut words, &mut starts, none, &node),
+    );
+    let mut over = [0u8; 771];
+    put_names(&mut over, 257);
+    tell(
+        b"257 names",
+        intern(
+            &over,
+            &mut words,
+            &mut starts,
+            Counters { nodes: 1, words: 2 },
+            &node,
+        ),
+    );
+    tell(
+        b"byte 127",
+        intern(&[1, 127], &mut words, &mut starts, none, &node),
+    );
+    tell(
+        b"byte 126",
+        intern(
+            &[1, 126],
+            &mut words,
+            &mut starts,
+            Counters { nodes: 1, words: 2 },
+            &node,
+        ),
+    );
+    tell(
+        b"empty name",
+        intern(&[0], &mut words, &mut starts, none, &node),
+    );
+    tell(
+        b"name twice",
+        intern(&[1, 97, 1, 97], &mut words, &mut starts, none, &node),
+    );
+}
+
+// Number 2: counters that memory doesn't hold, a word left over, lent words over the limit.
+fn arenas() {
+    let mut words = [0u32; 8];
+    let mut starts = [0u32; 4];
+    let node = [head(Head::TY_VAR, 1), 7];
+    put_vars(&mut words, &mut starts, 2);
+    tell(
+        b"two variables",
+        intern(
+            &[],
+            &mut words,
+            &mut starts,
+            Counters { nodes: 2, words: 4 },
+            &node,
+        ),
+    );
+    tell(
+        b"stale counters",
+        intern(
+            &[],
+            &mut words,
+            &mut starts,
+            Counters { nodes: 2, words: 4 },
+            &node,
+        ),
+    );
+    let mut over = [0u32; 16385];
+    let mut most = [0u32; 16384];
+    let mut few = [0u32; 1];
+    let none = Counters { nodes: 0, words: 0 };
+    tell(
+        b"16385 words",
+        intern(&[], &mut over, &mut few, none, &node),
+    );
+    tell(
+        b"16384 words",
+        intern(&[], &mut most, &mut few, none, &node),
+    );
+}
+
+// Numbers 3, 4 and 5, in an arena of two variables.
+fn faults() {
+    let mut words = [0u32; 80];
+    let mut starts = [0u32; 8];
+    put_vars(&mut words, &mut starts, 2);
+    let two = Counters { nodes: 2, words: 4 };
+    let table = [1, 97, 1, 98];
+    let mut over = [0u32; 66];
+    over[0] = head(Head::UNION, 65);
+    tell(
+        b"65 members",
+        intern(&table, &mut words, &mut starts, two, &over),
+    );
+    let mut most = [0u32; 65];
+    most[0] = head(Head::UNION, 64);
+    tell(
+        b"64 members",
+        intern(&table, &mut words, &mut starts, two, &most),
+    );
+    let c = Counters {
+        nodes: 3,
+        words: 69,
+    };
+    tell(b"no word", intern(&table, &mut words, &mut starts, c, &[]));
+    tell(
+        b"code 8",
+        intern(
+            &table,
+            &mut words,
+            &mut starts,
+            c,
+            &[head(Head::PRIMITIVE, 1), 8],
+        ),
+    );
+    tell(
+        b"child 3 of 3",
+        intern(
+            &table,
+            &mut words,
+            &mut starts,
+            c,
+            &[head(Head::LIST, 1), 3],
+        ),
+    );
+    tell(
+        b"child 2 of 3",
+        intern(
+            &table,
+            &mut words,
+            &mut starts,
+            c,
+            &[head(Head::LIST, 1), 2],
+        ),
+    );
+    let a = field_word(false, 0, 0);
+    let b = field_word(true, 1, 1);
+    let d = Counters {
+        nodes: 4,
+        words: 71,
+    };
+    tell(
+        b"names fall",
+        intern(
+            &table,
+            &mut words,
+            &mut starts,
+            d,
+            &[head(Head::ATTR_SET, 2), b, a],
+        ),
+    );
+    tell(
+        b"names repeat",
+        intern(
+            &table,
+            &mut words,
+            &mut starts,
+            d,
+            &[head(Head::ATTR_SET, 2), b, b],
+        ),
+    );
+    tell(
+        b"names rise",
+        intern(
+            &table,
+            &mut words,
+            &mut starts,
+            d,
+            &[head(Head::ATTR_SET, 2), a, b],
+        ),
+    );
+}
+
+// Name 255 is in a table of 256 names, and not in one of 255.
+fn last_name() {
+    let mut words = [0u32; 8];
+    let mut starts = [0u32; 4];
+    put_vars(&mut words, &mut starts, 1);
+    let mut fewer = [0u8; 765];
+    put_names(&mut fewer, 255);
+    let mut most = [0u8; 768];
+    put_names(&mut most, 256);
+    let one = Counters { nodes: 1, words: 2 };
+    let node = [head(Head::NAMED, 1), field_word(false, 255, 0)];
+    tell(
+        b"name 255 of 255",
+        intern(&fewer, &mut words, &mut starts, one, &node),
+    );
+    tell(
+        b"name 255 of 256",
+        intern(&most, &mut words, &mut starts, one, &node),
+    );
+}
+
+// Number 7 by starts: node number 4095 is the last; one more is refused, but a stored one is still found.
+fn most_nodes() {
+    let mut words = [0u32; 16384];
+    let mut starts = [0u32; 4096];
+    put_vars(&mut words, &mut starts, 4095);
+    let top = head(Head::TY_VAR, 1);
+    let c = Counters {
+        nodes: 4095,
+        words: 8190,
+    };
+    tell(
+        b"node 4096",
+        intern(&[], &mut words, &mut starts, c, &[top, 4095]),
+    );
+    let full = Counters {
+        nodes: 4096,
+        words: 8192,
+    };
+    tell(
+        b"node 4097",
+        intern(&[], &mut words, &mut starts, full, &[top, 4096]),
+    );
+    tell(
+        b"node 17 again",
+        intern(&[], &mut words, &mut starts, full, &[top, 17]),
+    );
+}
+
+// Number 7 by words: the last union ends with word 16,384; one word more is refused, but a stored node is still found.
+fn most_words() {
+    let mut words = [0u32; 16384];
+    let mut starts = [0u32; 4096];
+    put_unions(&mut words, &mut starts, 251);
+    let mut last = [0u32; 65];
+    put_union(&mut last, 0, 251);
+    let c = Counters {
+        nodes: 253,
+        words: 16319,
+    };
+    tell(
+        b"word 16384",
+        intern(&[], &mut words, &mut starts, c, &last),
+    );
+    let full = Counters {
+        nodes: 254,
+        words: 16384,
+    };
+    tell(
+        b"word 16385",
+        intern(&[], &mut words, &mut starts, full, &[head(Head::TOP, 0)]),
+    );
+    tell(
+        b"last union again",
+        intern(&[], &mut words, &mut starts, full, &last),
+    );
+}
+
+fn main() {
+    tables();
+    arenas();
+    faults();
+    last_name();
+    most_nodes();
+    most_words();
+}

@@ -1,0 +1,77 @@
+-- `fields_order` answers by the first difference. The loop's invariant: the fields passed are alike, so the rests stand as the lists do.
+use Prim.Native.Nat.{_-_}
+use lib.ListN.{length}
+use Rattle.node_order.specs.WordsOrder.{field-order}
+use Rattle.node_order.proofs.Comparing.{Level, level-start, level-told, level-more, level-longer, level-shorter, level-done}
+use borrow.Author.Needs.{needs}
+use Rattle.node_order.proofs.fields_order.Statement.{statement}
+use Rattle.node_order.proofs.fields_order.Tie as tie
+
+abbrev Inv-loop : tie.InvT-loop
+Inv-loop e f i₀ i = Level field-order e f i
+
+abbrev μ-loop : tie.MeasureT-loop
+μ-loop e f i₀ i = length e - i
+
+loop-holds : tie.Need-loop-holds Inv-loop μ-loop
+loop-holds c = search level-start
+
+returns : tie.Need-returns Inv-loop μ-loop
+returns c = search level-longer
+
+mul-field-order : tie.Need-mul-field-order Inv-loop μ-loop
+mul-field-order c = search needs
+
+shared-slice-read-field-order : tie.Need-shared-slice-read-field-order Inv-loop μ-loop
+shared-slice-read-field-order c = search needs
+
+mul-field-order-2 : tie.Need-mul-field-order-2 Inv-loop μ-loop
+mul-field-order-2 c = search needs
+
+shared-slice-read-field-order-2 : tie.Need-shared-slice-read-field-order-2 Inv-loop μ-loop
+shared-slice-read-field-order-2 c = search needs
+
+field-order-requires : tie.Need-field-order-requires Inv-loop μ-loop
+field-order-requires c κs = search needs
+
+enum-told : tie.Need-enum-told Inv-loop μ-loop
+enum-told c = search needs
+
+returns-2 : tie.Need-returns-2 Inv-loop μ-loop
+returns-2 c = search level-told
+
+add-i : tie.Need-add-i Inv-loop μ-loop
+add-i c = search needs
+
+loop-less : tie.Need-loop-less Inv-loop μ-loop
+loop-less c = search needs
+
+loop-again : tie.Need-loop-again Inv-loop μ-loop
+loop-again c = search level-more
+
+returns-3 : tie.Need-returns-3 Inv-loop μ-loop
+returns-3 c = search level-shorter
+
+returns-4 : tie.Need-returns-4 Inv-loop μ-loop
+returns-4 c = search level-done
+
+pub fields-order-spec : {M : Type 1} → statement M
+fields-order-spec =
+    tie.close
+    (tie.spec
+    Inv-loop
+    μ-loop
+    loop-holds
+    returns
+    mul-field-order
+    shared-slice-read-field-order
+    mul-field-order-2
+    shared-slice-read-field-order-2
+    field-order-requires
+    enum-told
+    returns-2
+    add-i
+    loop-less
+    loop-again
+    returns-3
+    returns-4)

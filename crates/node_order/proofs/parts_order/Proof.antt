@@ -1,0 +1,82 @@
+-- `parts_order` goes on to the next key where the ones before leave it open.
+use Rattle.node_order.proofs.Parts.{told-kind, told-fields, told-others, told-open, told-optional}
+use borrow.Author.Needs.{needs}
+use Rattle.node_order.proofs.parts_order.Statement.{statement}
+use Rattle.node_order.proofs.parts_order.Tie as tie
+
+kind-requires : tie.Need-kind-requires
+kind-requires c κs = search needs
+
+kind-requires-2 : tie.Need-kind-requires-2
+kind-requires-2 c κs = search needs
+
+word-order-requires : tie.Need-word-order-requires
+word-order-requires c κs = search needs
+
+enum-told : tie.Need-enum-told
+enum-told c = search needs
+
+returns : tie.Need-returns
+returns c = search told-kind
+
+fields-order-requires : tie.Need-fields-order-requires
+fields-order-requires c κs = search needs
+
+enum-told-2 : tie.Need-enum-told-2
+enum-told-2 c = search needs
+
+returns-2 : tie.Need-returns-2
+returns-2 c = search told-fields
+
+numbers-order-requires : tie.Need-numbers-order-requires
+numbers-order-requires c κs = search needs
+
+enum-told-3 : tie.Need-enum-told-3
+enum-told-3 c = search needs
+
+returns-3 : tie.Need-returns-3
+returns-3 c = search told-others
+
+opened-requires : tie.Need-opened-requires
+opened-requires c κs = search needs
+
+opened-requires-2 : tie.Need-opened-requires-2
+opened-requires-2 c κs = search needs
+
+flag-order-requires : tie.Need-flag-order-requires
+flag-order-requires c κs = search needs
+
+enum-told-4 : tie.Need-enum-told-4
+enum-told-4 c = search needs
+
+returns-4 : tie.Need-returns-4
+returns-4 c = search told-open
+
+optional-order-requires : tie.Need-optional-order-requires
+optional-order-requires c κs = search needs
+
+returns-5 : tie.Need-returns-5
+returns-5 c = search told-optional
+
+pub parts-order-spec : {M : Type 1} → statement M
+parts-order-spec =
+    tie.close
+    (tie.spec
+    kind-requires
+    kind-requires-2
+    word-order-requires
+    enum-told
+    returns
+    fields-order-requires
+    enum-told-2
+    returns-2
+    numbers-order-requires
+    enum-told-3
+    returns-3
+    opened-requires
+    opened-requires-2
+    flag-order-requires
+    enum-told-4
+    returns-4
+    optional-order-requires
+    returns-5)
