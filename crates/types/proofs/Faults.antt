@@ -19,7 +19,7 @@ use Rattle.types.proofs.Tests.{true-false, and-true, both, same-truth}
 use Rattle.types.proofs.Lists.{below-cons, below-map}
 use Rattle.types.proofs.KindNumbers.{kind-of-disc, disc-kind-of}
 use Rattle.words.proofs.Words.{head-of-fields, field-of-fields, field-optional-made, field-zero-made, child-zero-made, child-of-fields}
-use Rattle.types.proofs.Nodes.{nil, cons, length-child-words, Formed, formed-parts, parts-formed, encode-kind, encode-open, encode-dynamic, encode-zero, encode-count, length-encode}
+use Rattle.types.proofs.Nodes.{nil, cons, length-child-words, Formed, formed-parts, parts-formed, encode-kind, encode-open, encode-dynamic, encode-zero, encode-count, length-encode, guess-encode}
 use Rattle.types.proofs.Decodes.{is-words-yes, words-is, answer, by-guess}
 
 each-cons : (f : ℕ → ℕ) (w : ℕ) (ws : List ℕ) → each-zero f (w ∷ ws) ≡ true → (f w ≡ 0) × (each-zero f ws ≡ true)
@@ -292,6 +292,10 @@ children-guess (h ∷ b) = go (kind-of (head-kind h))
     go : (k : Option Kind) → children (guess-kind k (head-open h) (head-dynamic h) b) ≡ kind-children k b
     go none = refl
     go (some k) = refl
+
+-- the children that a formed node's words hold are the node's
+pub children-encode : (x : Node) → formed x ≡ true → children-in (encode x) ≡ children x
+children-encode x e = sym (children-guess (encode x)) ∙ ap children (guess-encode x e)
 
 kind-names-so : (k : Kind) (o d : Bool) (b : List ℕ) → body-count k d (length b) ≡ true → names (tag-of k o d b) ≡ map field-name (field-part (body-of k) d b)
 unfolding tag-of body-count

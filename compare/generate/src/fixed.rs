@@ -1,0 +1,246 @@
+//! The worked types of document 01, and types at each limit, for every operation.
+
+use reference::case::{Case, Host};
+use reference::memory::Memory;
+use reference::node::{Field, Node};
+use reference::{MEMBERS, NODES, TEXT, WORDS};
+
+use crate::build::Build;
+
+pub fn cases(op: u8) -> Vec<Case> {
+    let room = [TEXT as u32, 3, 2];
+    match op {
+        1 => [0, 25, 26, u32::MAX - 1, u32::MAX]
+            .map(Case::TyvarName)
+            .into(),
+        2 => nodes(),
+        3 => on_types(|host, root| {
+            [root, root - 1]
+                .map(|r| Case::Order(host.clone(), root, r))
+                .into()
+        }),
+        4 => on_types(|host, root| vec![Case::Simplify(host, root)]),
+        5 => on_types(|host, root| room.map(|r| Case::Display(host.clone(), root, r)).into()),
+        6 => [0, 1, 255, 256, 257]
+            .map(|n| Case::Table(numbered(n).table()))
+            .into(),
+        7 => vec![Case::Names(vec![b'x'; 64], vec![b'x'; 63])],
+        8 => sheets(),
+        9..=17 => on_types(|host, root| vec![Case::OnType(op, host, root)]),
+        18 => on_types(|host, root| {
+            let target = host.memory.clone();
+            let none = Memory::default();
+            vec![
+                Case::Compact(host.clone(), root, target),
+                Case::Compact(host, root, none),
+            ]
+        }),
+        19 => on_types(|host, root| vec![Case::Equal((host.clone(), root), (host, root))]),
+        _ => panic!("no operation {op}"),
+    }
+}
+
+/// A call on every type, first with all memory lent and then with no more than the arena fills.
+fn on_types(call: impl Fn(Host, u32) -> Vec<Case>) -> Vec<Case> {
+    let mut cases = Vec::new();
+    for (arena, root) in types() {
+        cases.extend(call(arena.host(WORDS, NODES), root));
+        cases.extend(call(arena.host(arena.words, arena.nodes.len()), root));
+    }
+    cases
+}
+
+/// A table of so many names of two bytes.
+fn numbered(count: usize) -> Build {
+    let name = |n: usize| vec![b'A' + (n / 26) as u8, b'a' + (n % 26) as u8];
+    Build::named((0..count).map(name).collect())
+}
+
+/// The types, each with its arena: a, b, `never`, `any`, `int`, `null` and `bool` are nodes 0 to 6.
+fn types() -> Vec<(Build, u32)> {
+    let union = |members: &[u32]| Node::Union(members.to_vec());
+    let isect = |members: &[u32]| Node::Intersection(members.to_vec());
+    // Each line is a type's nodes after the leaves, from 7 on; the last is its root.
+    let worked = vec![
+        vec![union(&[0, 4])],
+        vec![union(&[0, 4]), Node::Lambda(0, 7)],
+        vec![union(&[0, 1])],
+        vec![union(&[0, 2])],
+        vec![union(&[2, 0])],
+        vec![isect(&[3, 0]), union(&[4, 7])],
+        vec![union(&[0, 1]), isect(&[7, 4])],
+        vec![union(&[5, 6]), union(&[4, 5, 7])],
+        vec![isect(&[5, 6]), union(&[4, 7])],
+        vec![union(&[5, 6]), isect(&[4, 7])],
+        vec![union(&[4, 2])],
+        vec![Node::AttrSet(vec![], None, false)],
+        vec![Node::AttrSet(vec![], None, true)],
+        vec![Node::Lambda(0, 4), pair(7, 7)],
+        vec![Node::Lambda(0, 4), Node::Lambda(0, 6), pair(7, 8)],
+        vec![Node::Named(1, 0), Node::Neg(7), Node::List(8)],
+    ];
+    let mut types: Vec<_> = worked
+        .into_iter()
+        .map(|nodes| over(leaves(2), nodes))
+        .collect();
+    types.push(over(leaves(256), vec![Node::Named(255, 0)]));
+    types.extend((1..=8).chain([40]).map(ladder));
+    types.extend((63..=65).map(spliced));
+    types.extend([chain(Node::List), chain(|c| Node::Union(vec![c, 4]))]);
+    types.extend([
+        long_text(&[Node::Neg]),
+        long_text(&[Node::List, Node::List]),
+    ]);
+    types
+}
+
+fn leaves(names: usize) -> Build {
+    let mut arena = numbered(names);
+    arena.var(0);
+    arena.var(1);
+    for leaf in [Node::Bottom, Node::Top] {
+        arena.put(leaf);
+    }
+    for code in [2, 0, 1] {
+        arena.put(Node::Primitive(code));
+    }
+    arena
+}
+
+fn over(mut arena: Build, nodes: Vec<Node>) -> (Build, u32) {
+    let roots: Vec<u32> = nodes.into_iter().map(|node| arena.put(node)).collect();
+    let root = roots[roots.len() - 1];
+    (arena, root)
+}
+
+/// The closed set of two fields.
+fn pair(first: u32, second: u32) -> Node {
+    let field = |name, child| Field {
+        optional: false,
+        name,
+        child,
+    };
+    Node::AttrSet(vec![field(0, first), field(1, second)], None, false)
+}
+
+/// Document 01's ladder of so many steps.
+fn ladder(steps: u32) -> (Build, u32) {
+    let mut arena = leaves(2);
+    let mut pair = (0, 1);
+    for step in 1..=steps {
+        let list = if step % 2 == 1 {
+            Node::Union
+        } else {
+            Node::Intersection
+        };
+        let second = list(vec![pair.1, pair.0]);
+        pair = (arena.put(list(vec![pair.0, pair.1])), arena.put(second));
+    }
+    (arena, pair.0)
+}
+
+/// A union of two unions that have so many different members together, none of them removable.
+fn spliced(different: u32) -> (Build, u32) {
+    let mut arena = leaves(2);
+    let mut member = |index| {
+        let var = arena.var(index);
+        arena.put(Node::List(var))
+    };
+    let members: Vec<u32> = (0..different).map(&mut member).collect();
+    let first = arena.put(Node::Union(members[..40].to_vec()));
+    let second = arena.put(Node::Union(members[30..].to_vec()));
+    over(arena, vec![Node::Union(vec![first, second])])
+}
+
+/// A chain that fills all 4,096 nodes.
+fn chain(step: fn(u32) -> Node) -> (Build, u32) {
+    let mut arena = leaves(2);
+    let mut root = 0;
+    while arena.nodes.len() < NODES {
+        root = arena.put(step(root));
+    }
+    (arena, root)
+}
+
+/// A type whose text has 65,533 bytes, in these wraps: `Neg` adds three bytes, a list two.
+fn long_text(wraps: &[fn(u32) -> Node]) -> (Build, u32) {
+    let mut arena = leaves(2);
+    let mut root = 0;
+    for _ in 0..14 {
+        root = arena.put(Node::Union(vec![root, root]));
+    }
+    for wrap in wraps {
+        root = arena.put(wrap(root));
+    }
+    (arena, root)
+}
+
+/// `intern` at the limits: 64 and 65 members, the 4,096th node and the next, the last word and one
+/// more, name 255.
+fn nodes() -> Vec<Case> {
+    let list = |head: u32, members: usize| [vec![head + members as u32], vec![0; members]].concat();
+    let small = leaves(256).host(200, 20);
+    let mut cases: Vec<Case> = vec![
+        list(0x7000_0000, MEMBERS),
+        list(0x7000_0000, MEMBERS + 1),
+        list(0x8000_0000, MEMBERS),
+        list(0x8000_0000, MEMBERS + 1),
+        Node::Named(255, 0).encode(),
+        vec![],
+    ]
+    .into_iter()
+    .map(|node| Case::Intern(small.clone(), node))
+    .collect();
+    let without = Host {
+        table: numbered(255).table(),
+        ..small
+    };
+    cases.push(Case::Intern(without, Node::Named(255, 0).encode()));
+
+    let (full, last) = chain(Node::List);
+    let mut room = leaves(2);
+    for node in &full.nodes[..NODES - 1] {
+        room.put(node.clone());
+    }
+    for arena in [&full, &room] {
+        let host = arena.host(WORDS, NODES);
+        let neg = Node::Neg(last - 1).encode();
+        cases.push(Case::Intern(host.clone(), neg));
+        cases.push(Case::Intern(host, full.nodes[NODES - 2].encode()));
+    }
+    for left in [2, 1] {
+        let host = filled(WORDS - left).host(WORDS, NODES);
+        cases.push(Case::Intern(host, Node::List(0).encode()));
+    }
+    cases
+}
+
+/// An arena of so many words.
+fn filled(words: usize) -> Build {
+    let mut arena = leaves(2);
+    let mut root = 0;
+    while arena.words + 14 <= words {
+        root = arena.put(Node::Union(vec![root; 10]));
+    }
+    let rest = words - arena.words - 1;
+    arena.put(Node::Union(vec![root; rest]));
+    arena
+}
+
+/// The example, and sheets of 4,096 and 4,097 nodes.
+fn sheets() -> Vec<Case> {
+    let sheet = |opening: &[u8], words: Vec<u32>| {
+        let words = words.into_iter().flat_map(u32::to_be_bytes);
+        Case::Sheet(opening.iter().copied().chain(words).collect())
+    };
+    let example = vec![0x3000_0001, 0, 0x2000_0001, 2, 0x7000_0002, 0, 1];
+    let chain = |count: u32| {
+        let lists = (0..count - 1).flat_map(|n| [0x4000_0001, n]);
+        [0x2000_0001, 2].into_iter().chain(lists).collect()
+    };
+    vec![
+        sheet(&[0, 0, 0, 3, 0, 2], example),
+        sheet(&[0, 0, 0x10, 0x00, 0, 9], chain(4096)),
+        sheet(&[0, 0, 0x10, 0x01, 0, 9], chain(4097)),
+    ]
+}

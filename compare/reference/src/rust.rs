@@ -1,0 +1,181 @@
+//! The unchanged Rust, given our nodes and asked in our numbers.
+
+use std::cmp::Ordering;
+use std::fmt::Write;
+use std::sync::Arc;
+
+use lang_ty::{AttrSetTy, OutputTy, OwnedTy, PrimitiveTy, TyRef, TypeArena};
+use smol_str::SmolStr;
+
+use crate::node::{Field, Node};
+use crate::{Reply, TEXT};
+
+const PRIMITIVES: [PrimitiveTy; 8] = [
+    PrimitiveTy::Null,
+    PrimitiveTy::Bool,
+    PrimitiveTy::Int,
+    PrimitiveTy::Float,
+    PrimitiveTy::String,
+    PrimitiveTy::Path,
+    PrimitiveTy::Uri,
+    PrimitiveTy::Number,
+];
+
+pub struct Rust {
+    arena: TypeArena,
+    names: Vec<SmolStr>,
+}
+
+fn at(number: u32) -> TyRef {
+    TyRef::from_raw(number)
+}
+
+fn numbers(members: &[TyRef]) -> Vec<u32> {
+    members.iter().map(|m| m.into_raw()).collect()
+}
+
+impl Rust {
+    /// A Rust arena with these nodes under the same numbers.
+    pub fn holding(nodes: &[Node], names: &[String]) -> Rust {
+        let names = names.iter().map(SmolStr::new).collect();
+        let mut rust = Rust {
+            arena: TypeArena::new(),
+            names,
+        };
+        for (number, node) in nodes.iter().enumerate() {
+            assert_eq!(rust.intern(node) as usize, number, "nodes differ");
+        }
+        rust
+    }
+
+    pub fn intern(&mut self, node: &Node) -> u32 {
+        let node = self.put(node);
+        self.arena.intern(node).into_raw()
+    }
+
+    pub fn simplify(&mut self, root: u32) -> u32 {
+        self.change(root, lang_ty::simplify::simplify)
+    }
+
+    /// A call that may add nodes and gives a type back.
+    pub fn change(&mut self, root: u32, call: fn(&mut TypeArena, TyRef) -> TyRef) -> u32 {
+        call(&mut self.arena, at(root)).into_raw()
+    }
+
+    /// A question about a type.
+    pub fn ask<T>(&self, root: u32, question: fn(&TypeArena, TyRef) -> T) -> T {
+        question(&self.arena, at(root))
+    }
+
+    pub fn unwrap_named(&self, root: u32) -> u32 {
+        self.ask(root, TypeArena::unwrap_named).into_raw()
+    }
+
+    /// The nodes of the compact arena, and the root there.
+    pub fn compact(&self, root: u32) -> (Vec<Node>, u32) {
+        let (arena, root) = self.arena.compact(at(root));
+        let names = self.names.clone();
+        (Rust { arena, names }.nodes(), root.into_raw())
+    }
+
+    pub fn structurally_eq(self, root: u32, other: Rust, other_root: u32) -> bool {
+        let left = OwnedTy::new(Arc::new(self.arena), at(root));
+        let right = OwnedTy::new(Arc::new(other.arena), at(other_root));
+        left.structurally_eq(&right)
+    }
+
+    pub fn order(&self, left: u32, right: u32) -> Ordering {
+        self.arena[at(left)].cmp(&self.arena[at(right)])
+    }
+
+    pub fn nodes(&self) -> Vec<Node> {
+        let all = 0..self.arena.len() as u32;
+        all.map(|number| self.take(&self.arena[at(number)]))
+            .collect()
+    }
+
+    /// The text, or 9 if it is longer than `room` or the most there may be.
+    pub fn display(&self, root: u32, room: usize) -> Reply<String> {
+        let room = room.min(TEXT);
+        let mut text = Bounded {
+            text: String::new(),
+            room,
+        };
+        let shown = write!(text, "{}", self.arena.display(at(root)));
+        shown.map(|()| text.text).map_err(|_| 9)
+    }
+
+    fn put(&self, node: &Node) -> OutputTy {
+        let refs = |members: &[u32]| members.iter().map(|&m| at(m)).collect();
+        let name = |name: u8| self.names[usize::from(name)].clone();
+        match node {
+            Node::Bottom => OutputTy::Bottom,
+            Node::Top => OutputTy::Top,
+            Node::Primitive(code) => OutputTy::Primitive(PRIMITIVES[*code as usize]),
+            Node::TyVar(index) => OutputTy::TyVar(*index),
+            Node::List(child) => OutputTy::List(at(*child)),
+            Node::Lambda(param, body) => OutputTy::Lambda {
+                param: at(*param),
+                body: at(*body),
+            },
+            Node::AttrSet(fields, dynamic, open) => {
+                let optional = fields.iter().filter(|f| f.optional);
+                OutputTy::AttrSet(AttrSetTy {
+                    fields: fields.iter().map(|f| (name(f.name), at(f.child))).collect(),
+                    dyn_ty: dynamic.map(at),
+                    open: *open,
+                    optional_fields: optional.map(|f| name(f.name)).collect(),
+                })
+            }
+            Node::Union(members) => OutputTy::Union(refs(members)),
+            Node::Intersection(members) => OutputTy::Intersection(refs(members)),
+            Node::Named(alias, child) => OutputTy::Named(name(*alias), at(*child)),
+            Node::Neg(child) => OutputTy::Neg(at(*child)),
+        }
+    }
+
+    fn take(&self, node: &OutputTy) -> Node {
+        let number = |name: &SmolStr| self.names.binary_search(name).unwrap() as u8;
+        match node {
+            OutputTy::Bottom => Node::Bottom,
+            OutputTy::Top => Node::Top,
+            OutputTy::Primitive(p) => {
+                let code = PRIMITIVES.iter().position(|q| q == p);
+                Node::Primitive(code.unwrap() as u32)
+            }
+            OutputTy::TyVar(index) => Node::TyVar(*index),
+            OutputTy::List(child) => Node::List(child.into_raw()),
+            OutputTy::Lambda { param, body } => Node::Lambda(param.into_raw(), body.into_raw()),
+            OutputTy::AttrSet(set) => {
+                let field = |(name, child): (&SmolStr, &TyRef)| Field {
+                    optional: set.optional_fields.contains(name),
+                    name: number(name),
+                    child: child.into_raw(),
+                };
+                let fields = set.fields.iter().map(field).collect();
+                Node::AttrSet(fields, set.dyn_ty.map(TyRef::into_raw), set.open)
+            }
+            OutputTy::Union(members) => Node::Union(numbers(members)),
+            OutputTy::Intersection(members) => Node::Intersection(numbers(members)),
+            OutputTy::Named(name, child) => Node::Named(number(name), child.into_raw()),
+            OutputTy::Neg(child) => Node::Neg(child.into_raw()),
+            OutputTy::Extern(_) => unreachable!("no node of ours is Extern"),
+        }
+    }
+}
+
+/// A text that takes no more than it has room for, so that the Rust stops printing there.
+struct Bounded {
+    text: String,
+    room: usize,
+}
+
+impl Write for Bounded {
+    fn write_str(&mut self, part: &str) -> std::fmt::Result {
+        if self.text.len() + part.len() > self.room {
+            return Err(std::fmt::Error);
+        }
+        self.text.push_str(part);
+        Ok(())
+    }
+}

@@ -1,0 +1,162 @@
+//! A sheet and its line. A sheet is read from the front, and the first fault met is the answer.
+
+use std::collections::HashSet;
+
+use crate::limited::Lent;
+use crate::node::{decode, Head, Node};
+use crate::rust::Rust;
+use crate::simplify::simplify;
+use crate::table::{length_fits, next, NAMES};
+use crate::{Reply, NODES, TEXT, WORDS};
+
+struct Bytes<'a> {
+    sheet: &'a [u8],
+    read: usize,
+}
+
+impl<'a> Bytes<'a> {
+    /// The next bytes; 10 if one is missing or would be the 65,537th.
+    fn take(&mut self, count: usize) -> Reply<&'a [u8]> {
+        let end = self.read + count;
+        if end > TEXT {
+            return Err(10);
+        }
+        let taken = self.sheet.get(self.read..end).ok_or(10)?;
+        self.read = end;
+        Ok(taken)
+    }
+
+    fn number(&mut self, bytes: usize) -> Reply<u32> {
+        let taken = self.take(bytes)?.iter();
+        Ok(taken.fold(0, |n, &b| n << 8 | u32::from(b)))
+    }
+}
+
+/// What a sheet holds.
+struct Sheet {
+    names: Vec<String>,
+    nodes: Vec<Node>,
+    root: u32,
+}
+
+fn read_names(from: &mut Bytes, count: u32) -> Reply<Vec<String>> {
+    let mut names = Vec::new();
+    for _ in 0..count {
+        let length = from.number(1)? as usize;
+        if !length_fits(length) {
+            return Err(1);
+        }
+        let name = from.take(length)?;
+        names.push(next(name, names.last())?);
+    }
+    Ok(names)
+}
+
+fn read_nodes(from: &mut Bytes, count: u32, names: usize) -> Reply<Vec<Node>> {
+    let mut nodes = Vec::new();
+    let mut seen = HashSet::new();
+    let mut used = 0;
+    for _ in 0..count {
+        let mut words = vec![from.number(4)?];
+        let head = Head::of(words[0]);
+        if !head.fits() {
+            return Err(3);
+        }
+        let body = from.take(4 * head.count)?.chunks(4);
+        words.extend(body.map(|b| u32::from_be_bytes(b.try_into().unwrap())));
+        let node = decode(&words, nodes.len(), names)?;
+        if !seen.insert(node.clone()) {
+            return Err(10);
+        }
+        used += words.len();
+        nodes.push(node);
+        if nodes.len() > NODES || used > WORDS {
+            return Err(7);
+        }
+    }
+    Ok(nodes)
+}
+
+fn read(sheet: &[u8]) -> Reply<Sheet> {
+    let from = &mut Bytes { sheet, read: 0 };
+    let opening = from.take(6)?;
+    let part = |at: usize| u32::from_be_bytes([0, 0, opening[at], opening[at + 1]]);
+    let (names, nodes, root) = (part(0), part(2), part(4));
+    if names as usize > NAMES {
+        return Err(1);
+    }
+    let names = read_names(from, names)?;
+    let nodes = read_nodes(from, nodes, names.len())?;
+    if from.read < sheet.len() {
+        return Err(10);
+    }
+    if root as usize >= nodes.len() {
+        return Err(6);
+    }
+    Ok(Sheet { names, nodes, root })
+}
+
+/// The line of a sheet without its last byte. `left_out` is set if the unchanged Rust was left out.
+pub fn line(sheet: &[u8], left_out: &mut bool) -> Reply<String> {
+    let Sheet { names, nodes, root } = read(sheet)?;
+    let lent = Lent {
+        words: WORDS,
+        starts: NODES,
+    };
+    let run = simplify(&nodes, &names, root, lent);
+    *left_out = !run.can_be_walked;
+    if let Some(refusal) = run.arena.refused {
+        return Err(refusal);
+    }
+    let text = Rust::holding(&run.arena.nodes, &names).display(run.root, TEXT)?;
+    Ok(format!("{} {} {text}", run.root, run.passes))
+}
+
+#[cfg(test)]
+mod tests {
+    use super::*;
+
+    fn answer(hex: &str) -> Reply<String> {
+        let digits: String = hex.split_whitespace().collect();
+        let byte = |at: usize| u8::from_str_radix(&digits[at..at + 2], 16).unwrap();
+        let bytes: Vec<u8> = (0..digits.len()).step_by(2).map(byte).collect();
+        line(&bytes, &mut false)
+    }
+
+    #[test]
+    fn the_example() {
+        let sheet = "000000030002 30000001 00000000 20000001 00000002 70000002 00000000 00000001";
+        assert_eq!(answer(sheet).unwrap(), "1 2 int");
+        assert_eq!(answer(&format!("{sheet} 00")), Err(10));
+        assert_eq!(answer(&sheet[..sheet.len() - 2]), Err(10));
+    }
+
+    #[test]
+    fn the_first_fault_met() {
+        assert_eq!(answer(""), Err(10));
+        assert_eq!(answer("0101 0000 00"), Err(10), "opening cut short");
+        assert_eq!(answer("0101 0000 0000"), Err(1), "257 names");
+        assert_eq!(answer("0001 0000 0000"), Err(10), "no length byte");
+        assert_eq!(answer("0001 0000 0000 00"), Err(1), "length 0");
+        assert_eq!(answer("0001 0000 0000 41"), Err(1), "length 65");
+        assert_eq!(answer("0001 0000 0000 02 00"), Err(10), "name cut short");
+        assert_eq!(answer("0001 0000 0000 01 1f"), Err(1), "byte 31");
+        assert_eq!(answer("0000 0000 0000"), Err(6), "no node");
+        assert_eq!(answer("0000 0000 0000 00"), Err(10), "left over before 6");
+        assert_eq!(
+            answer("0000 0001 0000 b0000001"),
+            Err(3),
+            "head before body"
+        );
+        assert_eq!(answer("0000 0001 0000 20000001 000000"), Err(10));
+        assert_eq!(answer("0000 0001 0000 20000001 00000008"), Err(3));
+        assert_eq!(answer("0000 0001 0000 40000001 00000000"), Err(4));
+        assert_eq!(
+            answer("0000 0002 0000 00000000 00000000"),
+            Err(10),
+            "repeat"
+        );
+        assert_eq!(answer("0000 ffff 0000 00000000"), Err(10));
+        assert_eq!(answer("0000 0001 0001 00000000"), Err(6));
+    }
+}

@@ -1,0 +1,73 @@
+//! The name table.
+
+use crate::Reply;
+
+/// Most names of a table, and most bytes of a name.
+pub const NAMES: usize = 256;
+pub const LENGTH: usize = 64;
+
+/// The names in order, or refusal 1.
+pub fn check(mut bytes: &[u8]) -> Reply<Vec<String>> {
+    let mut names = Vec::new();
+    while let Some((&length, rest)) = bytes.split_first() {
+        let length = usize::from(length);
+        if !length_fits(length) || rest.len() < length || names.len() == NAMES {
+            return Err(1);
+        }
+        let (name, rest) = rest.split_at(length);
+        names.push(next(name, names.last())?);
+        bytes = rest;
+    }
+    Ok(names)
+}
+
+pub fn length_fits(length: usize) -> bool {
+    (1..=LENGTH).contains(&length)
+}
+
+/// A name after `last`: its bytes are printable and it is greater, byte by byte.
+pub fn next(name: &[u8], last: Option<&String>) -> Reply<String> {
+    let printable = name.iter().all(|b| (32..=126).contains(b));
+    let rises = last.is_none_or(|last| last.as_bytes() < name);
+    if !printable || !rises {
+        return Err(1);
+    }
+    Ok(String::from_utf8(name.to_vec()).unwrap())
+}
+
+#[cfg(test)]
+mod tests {
+    use super::*;
+
+    #[test]
+    fn rules() {
+        assert_eq!(check(b"").unwrap().len(), 0);
+        assert_eq!(check(b"\x01 \x01~").unwrap(), [" ", "~"]);
+        assert_eq!(check(b"\x01a\x02ab").unwrap(), ["a", "ab"]);
+        for faulty in [
+            &b"\x00"[..],
+            b"\x01",
+            b"\x02a",
+            b"\x01\x1f",
+            b"\x01\x7f",
+            b"\x01a\x01a",
+            b"\x01b\x01a",
+            b"\x02ab\x01a",
+        ] {
+            assert_eq!(check(faulty), Err(1), "{faulty:?}");
+        }
+        let long = |n: usize| [vec![n as u8], vec![b'x'; n]].concat();
+        assert!(check(&long(64)).is_ok());
+        assert_eq!(check(&long(65)), Err(1));
+    }
+
+    #[test]
+    fn at_most_256_names() {
+        let table = |n: u32| -> Vec<u8> {
+            let name = |i: u32| [2, 32 + (i / 90) as u8, 32 + (i % 90) as u8];
+            (0..n).flat_map(name).collect()
+        };
+        assert_eq!(check(&table(256)).unwrap().len(), 256);
+        assert_eq!(check(&table(257)), Err(1));
+    }
+}

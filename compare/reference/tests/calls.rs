@@ -1,0 +1,154 @@
+//! The order of refusals, and what they leave behind.
+
+use reference::answer::answer;
+use reference::case::{Case, Host, Reader};
+use reference::memory::Memory;
+use reference::node::Node;
+
+/// The nodes in so many lent words and starts, with the one name `x`.
+fn host(nodes: &[Node], words: usize, starts: usize) -> Host {
+    let empty = Memory {
+        words: vec![0; words],
+        starts: vec![0; starts],
+        ..Memory::default()
+    };
+    Host {
+        table: b"\x01x".to_vec(),
+        memory: empty.holding(nodes),
+    }
+}
+
+/// The answer to a case that was written and read back.
+fn line(case: Case) -> String {
+    let bytes = case.write();
+    let mut reader = Reader(&bytes);
+    let read = reader.next().unwrap();
+    assert!(reader.next().is_none());
+    assert_eq!(read.write(), bytes);
+    answer(&read).line
+}
+
+fn faulty(mut host: Host, table: bool, memory: bool) -> Host {
+    if table {
+        host.table.push(0);
+    }
+    if memory {
+        host.memory.nodes += 1;
+    }
+    host
+}
+
+#[test]
+fn intern() {
+    let arena = || host(&[Node::TyVar(7)], 4, 2);
+    let intern = |host, node: &[u32]| line(Case::Intern(host, node.to_vec()));
+    let (stored, list) = ([0x3000_0001, 7], [0x4000_0001, 0]);
+    assert_eq!(intern(arena(), &stored), "ok 0 1 2 W 30000001 7 S");
+    assert_eq!(
+        intern(arena(), &list),
+        "ok 1 2 4 W 30000001 7 40000001 S 0 2"
+    );
+    let lambda = [0x5000_0002, 0, 0];
+    assert_eq!(intern(arena(), &lambda), "refused 7 W 30000001 7 S");
+    let full = || host(&[Node::TyVar(7)], 2, 1);
+    assert_eq!(intern(full(), &stored), "ok 0 1 2 W 30000001 7 S");
+    assert_eq!(intern(full(), &list), "refused 7 W 30000001 7 S");
+    // A faulty node in a faulty arena with a faulty table.
+    assert!(intern(faulty(arena(), true, true), &[]).starts_with("refused 1 "));
+    assert!(intern(faulty(arena(), false, true), &[]).starts_with("refused 2 "));
+    assert!(intern(arena(), &[]).starts_with("refused 3 "));
+}
+
+#[test]
+fn order_and_display() {
+    let arena = || host(&[Node::TyVar(7), Node::Bottom], 4, 2);
+    assert_eq!(line(Case::Order(arena(), 0, 1)), "after");
+    assert_eq!(line(Case::Order(arena(), 0, 0)), "same");
+    assert_eq!(line(Case::Order(arena(), 0, 2)), "refused 6");
+    assert_eq!(
+        line(Case::Order(faulty(arena(), false, true), 0, 9)),
+        "refused 2"
+    );
+    assert_eq!(line(Case::Display(arena(), 1, 5)), "ok 5 6e65766572");
+    assert_eq!(line(Case::Display(arena(), 1, 4)), "refused 9");
+    assert_eq!(line(Case::Display(arena(), 2, 0)), "refused 6");
+}
+
+#[test]
+fn compact() {
+    let arena = || host(&[Node::Bottom, Node::TyVar(7)], 3, 2);
+    let target = |words, starts| Memory {
+        nodes: 5,
+        used: 6,
+        words: vec![8; words],
+        starts: vec![9; starts],
+    };
+    let compact = |host, root, target| line(Case::Compact(host, root, target));
+    assert_eq!(compact(arena(), 1, target(3, 1)), "ok 0 1 2 W 30000001 7 S");
+    assert_eq!(compact(arena(), 1, target(1, 1)), "refused 7 0 0 W S");
+    assert_eq!(compact(arena(), 1, target(2, 0)), "refused 7 0 0 W S");
+    assert_eq!(compact(arena(), 2, target(1, 1)), "refused 6 5 6 W 8 S 9");
+    let over = compact(arena(), 2, target(1, 4097));
+    assert!(over.starts_with("refused 2 5 6 W 8 S 9 "));
+    let table = faulty(arena(), true, false);
+    assert!(compact(table, 2, target(1, 4097)).starts_with("refused 1 5 6 "));
+}
+
+#[test]
+fn equal() {
+    let arena = || host(&[Node::Bottom, Node::TyVar(7)], 3, 2);
+    let other = || host(&[Node::TyVar(7)], 2, 1);
+    let equal = |left, right| line(Case::Equal(left, right));
+    assert_eq!(equal((arena(), 1), (other(), 0)), "yes");
+    assert_eq!(equal((arena(), 0), (other(), 0)), "no");
+    assert_eq!(
+        equal((arena(), 2), (faulty(other(), true, true), 0)),
+        "refused 1"
+    );
+    assert_eq!(
+        equal((arena(), 2), (faulty(other(), false, true), 0)),
+        "refused 2"
+    );
+    let unsound = faulty(arena(), false, true);
+    assert_eq!(
+        equal((unsound, 0), (faulty(other(), true, true), 0)),
+        "refused 2"
+    );
+    assert_eq!(equal((arena(), 1), (other(), 1)), "refused 6");
+}
+
+/// A list's 65th member comes before a later member's new node, but an earlier one's comes first.
+#[test]
+fn set_ops() {
+    for (new_first, expected) in [(false, "refused 8 "), (true, "refused 7 ")] {
+        let mut nodes: Vec<Node> = (0..65).map(Node::TyVar).collect();
+        nodes.push(Node::Union((0..40).collect()));
+        nodes.push(Node::Union((40..65).collect()));
+        nodes.push(Node::Union(vec![1, 0]));
+        nodes.push(Node::List(67));
+        let members = if new_first {
+            vec![68, 65, 66]
+        } else {
+            vec![65, 66, 68]
+        };
+        nodes.push(Node::Union(members));
+        let words = nodes.iter().map(Node::size).sum();
+        let host = host(&nodes, words, nodes.len());
+        assert!(line(Case::OnType(17, host, 69)).starts_with(expected));
+    }
+}
+
+#[test]
+fn questions() {
+    let nodes = [Node::TyVar(7), Node::Lambda(0, 0), Node::Named(0, 1)];
+    let ask = |op| line(Case::OnType(op, host(&nodes, 20, 8), 2));
+    assert_eq!(ask(9), "ok 1 7");
+    assert!(ask(10).starts_with("ok 5 6 14 "));
+    assert_eq!(ask(11), "yes");
+    assert!(ask(12).starts_with("ok 5 6 14 "));
+    assert_eq!(ask(13), "yes");
+    assert_eq!(ask(14), "yes");
+    assert_eq!(ask(15), "no");
+    assert_eq!(ask(16), "ok 1");
+    assert!(ask(17).starts_with("ok 2 3 7 "));
+}

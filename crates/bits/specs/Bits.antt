@@ -1,0 +1,40 @@
+-- Sets of numbers, one bit a number in words of 64 bits (01, "Forms of the Rust that can't be kept": visited sets).
+use Prim.Native.Nat.{ℕ, zero, suc, _/_, _%_, _^_, _≤_, _<_}
+use mathlib.Core.Path.{_≡_}
+use mathlib.Core.Bool.{Bool, true, false}
+use mathlib.Core.List.{List}
+use lib.ListN.{length, getD}
+use lib.Count.{ones}
+use lib.Dec.{eqb}
+
+-- bit b of x, by halving
+unfoldable pub bit : ℕ → ℕ → Bool
+bit x zero = eqb (x % 2) 1
+bit x (suc b) = bit (x / 2) b
+
+-- is n in the set?
+unfoldable pub has : List ℕ → ℕ → Bool
+unfolding bit
+has s n = bit (getD s (n / 64) 0) (n % 64)
+
+-- s has room for n: a reference to an array doesn't say the length of its list
+pub record Row (s : List ℕ) (n : ℕ) : Type 0 where
+  pub long : length s ≡ 64
+  pub inside : n < 4096
+
+-- t is the set s with n in it
+pub record Put (s : List ℕ) (n : ℕ) (t : List ℕ) : Type 0 where
+  pub long : length t ≡ length s
+  pub new : has t n ≡ true
+  pub old : (m : ℕ) → (m ≡ n → ⊥) → has t m ≡ has s m
+
+-- how many of the numbers below n pass the test?
+unfoldable pub count-below : (ℕ → Bool) → ℕ → ℕ
+count-below f zero = 0
+count-below f (suc n) = elim (f n) [ true ↦ suc (count-below f n) | false ↦ count-below f n ]
+
+-- r is how many ones the word x has
+pub record Ones (x r : ℕ) : Type 0 where
+  pub is : r ≡ ones x
+  pub few : r ≤ 64
+  pub word : x < 2 ^ 64

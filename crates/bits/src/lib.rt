@@ -1,0 +1,46 @@
+// Sets of node numbers, one bit a node: 64 words of 64 bits. The laws of proofs/Sets.antt hold for rows of any length.
+ghost use Prim.Native.Nat.{_<_};
+ghost use mathlib.Core.Path.{_≡_};
+ghost use Rattle.bits.specs.Bits.{has, Row, Put, count-below, Ones};
+
+// Whether n is in the set.
+pub fn test(seen: &[u64; 64], n: u32) -> bool
+    requires { ⌜ n < 4096 ⌝ }
+    ensures { λ r. ⌜ r ≡ has (now (seen .entry)) n ⌝ }
+{
+    let w = (n / 64) as usize;
+    let b = n % 64;
+    let x = seen[w] >> b;
+    x % 2 == 1
+}
+
+// Puts n into the set.
+pub fn put(seen: &mut [u64; 64], n: u32)
+    requires { ⌜ Row (now seen) n ⌝ }
+    ensures { λ _. ⌜ Put (now (seen .entry)) n (now (seen .exit)) ⌝ }
+{
+    let w = (n / 64) as usize;
+    let b = n % 64;
+    let one: u64 = 1;
+    seen[w] = seen[w] | (one << b);
+}
+
+// The ones of a word. An element behind a reference to an array says nothing of its range; a parameter does.
+fn ones_of(x: u64) -> u32
+    ensures { λ r. ⌜ Ones x r ⌝ }
+{
+    u64::count_ones(x)
+}
+
+// How many numbers the set has.
+pub fn count(seen: &[u64; 64]) -> u32
+    ensures { λ r. ⌜ r ≡ count-below (has (now (seen .entry))) 4096 ⌝ }
+{
+    let mut sum: u32 = 0;
+    let mut i = 0;
+    while i < 64 {
+        sum += ones_of(seen[i]);
+        i += 1;
+    }
+    sum
+}

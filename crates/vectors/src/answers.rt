@@ -1,0 +1,234 @@
+// The line of each case. A case is taken from the front of `s`, its first byte is its number, and an answer says how many
+// bytes the case has and how many the output holds.
+use crate::input::add;
+use crate::input::byte;
+use crate::input::lend;
+use crate::input::load;
+use crate::input::part;
+use crate::input::short;
+use crate::input::word;
+use crate::output::put_decimal;
+use crate::output::put_lent;
+use crate::output::put_text;
+use arena::Compared;
+use arena::added::Interned;
+use names::Table;
+use names::check_names;
+use types::Counters;
+use types::Ordering;
+use types::arc_ty::tyvar_name;
+use types::arc_ty::wide;
+
+// An answer put, or none.
+pub enum Step {
+    Done { used: usize, held: usize },
+    // The case isn't there whole, or has a number of no call.
+    Cut,
+}
+
+// The end of a line.
+fn done(used: usize, out: &mut [u8], held: usize) -> Step {
+    Step::Done {
+        used,
+        held: put_text(out, held, b"\n"),
+    }
+}
+
+fn line(used: usize, out: &mut [u8], held: usize, text: &[u8]) -> Step {
+    let held = put_text(out, held, text);
+    done(used, out, held)
+}
+
+fn refused(out: &mut [u8], held: usize, number: u32) -> usize {
+    let held = put_text(out, held, b"refused ");
+    put_decimal(out, held, wide(number))
+}
+
+fn ordered(used: usize, out: &mut [u8], held: usize, order: Ordering) -> Step {
+    match order {
+        Ordering::Less => line(used, out, held, b"before"),
+        Ordering::Equal => line(used, out, held, b"same"),
+        Ordering::Greater => line(used, out, held, b"after"),
+    }
+}
+
+// The bytes of a short text.
+fn front<'a>(bytes: &'a [u8; 11], len: usize) -> &'a [u8] {
+    part(bytes, 0, len)
+}
+
+// A variable's name.
+pub fn tyvar(s: &[u8], out: &mut [u8], held: usize) -> Step {
+    if s.len() < 5 {
+        return Step::Cut;
+    }
+    let name = tyvar_name(word(s, 1));
+    let bytes = name.bytes;
+    line(5, out, held, front(&bytes, name.len))
+}
+
+// The check of a name table.
+pub fn table(s: &[u8], out: &mut [u8], held: usize) -> Step {
+    let end = add(3, short(s, 1));
+    if s.len() < end {
+        return Step::Cut;
+    }
+    let checked = check_names(part(s, 3, end));
+    match checked {
+        Table::Names(count) => {
+            let held = put_text(out, held, b"ok ");
+            let held = put_decimal(out, held, count);
+            done(end, out, held)
+        }
+        Table::Refused(number) => {
+            let held = refused(out, held, number);
+            done(end, out, held)
+        }
+    }
+}
+
+// How two names stand.
+pub fn name_order(s: &[u8], out: &mut [u8], held: usize) -> Step {
+    let middle = add(2, byte(s, 1));
+    let second = add(middle, 1);
+    let end = add(second, byte(s, middle));
+    if s.len() < end {
+        return Step::Cut;
+    }
+    let order = names::compare(part(s, 2, middle), part(s, second, end));
+    ordered(end, out, held, order)
+}
+
+// What a host lends: the name table is `s[3..table]`, and the memory lent is the first words and starts.
+struct Host {
+    table: usize,
+    counters: Counters,
+    words: usize,
+    starts: usize,
+    next: usize,
+}
+
+fn lend_host(s: &[u8], words: &mut [u32], starts: &mut [u32]) -> Host {
+    let table = add(3, short(s, 1));
+    let used = add(table, 4);
+    let counters = Counters {
+        nodes: wide(word(s, table)),
+        words: wide(word(s, used)),
+    };
+    let lent_words = lend(s, add(used, 4), words);
+    let lent_starts = lend(s, lent_words.next, starts);
+    Host {
+        table,
+        counters,
+        words: lent_words.count,
+        starts: lent_starts.count,
+        next: lent_starts.next,
+    }
+}
+
+// What `intern` answered.
+fn interned(out: &mut [u8], held: usize, r: Interned) -> usize {
+    match r {
+        Interned::Node(number, c) => {
+            let held = put_text(out, held, b"ok ");
+            let held = put_decimal(out, held, wide(number));
+            let held = put_text(out, held, b" ");
+            let held = put_decimal(out, held, c.nodes);
+            let held = put_text(out, held, b" ");
+            put_decimal(out, held, c.words)
+        }
+        Interned::Refused(number) => refused(out, held, number),
+    }
+}
+
+// The call, on what was lent, and the memory as it leaves it. The node's words stand from a place on.
+fn intern_lent(
+    s: &[u8],
+    table: usize,
+    from: usize,
+    words: &mut [u32],
+    starts: &mut [u32],
+    c: Counters,
+    node: &mut [u32],
+    out: &mut [u8],
+    held: usize,
+) -> usize {
+    load(s, from, node);
+    let r = arena::intern(part(s, 3, table), words, starts, c, node);
+    let held = interned(out, held, r);
+    let held = put_lent(out, held, b'W', words);
+    put_lent(out, held, b'S', starts)
+}
+
+// A node's number, and the memory after.
+pub fn intern(
+    s: &[u8],
+    words: &mut [u32],
+    starts: &mut [u32],
+    node: &mut [u32],
+    out: &mut [u8],
+    held: usize,
+) -> Step {
+    let h = lend_host(s, words, starts);
+    let c = h.counters;
+    let m = h.words;
+    let n = h.starts;
+    let count = short(s, h.next);
+    let from = add(h.next, 2);
+    let end = add(from, 4 * count);
+    if s.len() < end || words.len() < m || starts.len() < n || node.len() < count {
+        return Step::Cut;
+    }
+    let held = intern_lent(
+        s,
+        h.table,
+        from,
+        &mut words[0..m],
+        &mut starts[0..n],
+        c,
+        &mut node[0..count],
+        out,
+        held,
+    );
+    done(end, out, held)
+}
+
+// What `compare` answered.
+fn compared(used: usize, out: &mut [u8], held: usize, r: Compared) -> Step {
+    match r {
+        Compared::Stand(order) => ordered(used, out, held, order),
+        Compared::Refused(number) => {
+            let held = refused(out, held, number);
+            done(used, out, held)
+        }
+    }
+}
+
+// How two nodes stand.
+pub fn compare(
+    s: &[u8],
+    words: &mut [u32],
+    starts: &mut [u32],
+    out: &mut [u8],
+    held: usize,
+) -> Step {
+    let h = lend_host(s, words, starts);
+    let c = h.counters;
+    let m = h.words;
+    let n = h.starts;
+    let left = word(s, h.next);
+    let right = word(s, add(h.next, 4));
+    let end = add(h.next, 8);
+    if s.len() < end || words.len() < m || starts.len() < n {
+        return Step::Cut;
+    }
+    let r = arena::compare(
+        part(s, 3, h.table),
+        &words[0..m],
+        &starts[0..n],
+        c,
+        left,
+        right,
+    );
+    compared(end, out, held, r)
+}

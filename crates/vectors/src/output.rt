@@ -1,0 +1,76 @@
+// Standard output, collected in a buffer. Each function takes how many bytes the buffer holds, and gives back how many it
+// holds after.
+use crate::input::part;
+
+// Writes the buffer out.
+pub fn flush(out: &[u8], held: usize) {
+    io::write_all(1, part(out, 0, held));
+}
+
+fn put(out: &mut [u8], held: usize, byte: u8) -> usize {
+    if held < out.len() {
+        out[held] = byte;
+        return held + 1;
+    }
+    io::write_all(1, out);
+    if 0 < out.len() {
+        out[0] = byte;
+        return 1;
+    }
+    0
+}
+
+pub fn put_text(out: &mut [u8], held: usize, text: &[u8]) -> usize {
+    let mut held = held;
+    let mut i = 0;
+    while i < text.len() {
+        held = put(out, held, text[i]);
+        i += 1;
+    }
+    held
+}
+
+pub fn put_decimal(out: &mut [u8], held: usize, n: usize) -> usize {
+    let mut digits = [0u8; 20];
+    let count = io::decimal(n as u64, &mut digits);
+    put_text(out, held, &digits[..count])
+}
+
+fn put_hex(out: &mut [u8], held: usize, n: u32) -> usize {
+    let mut digits = [0u8; 16];
+    let count = io::hex(n as u64, 1, &mut digits);
+    put_text(out, held, &digits[..count])
+}
+
+fn put_words(out: &mut [u8], held: usize, words: &[u32], count: usize) -> usize {
+    let mut held = held;
+    let mut i = 0;
+    while i < words.len() {
+        if i >= count {
+            return held;
+        }
+        held = put(out, held, b' ');
+        held = put_hex(out, held, words[i]);
+        i += 1;
+    }
+    held
+}
+
+// How many words there are up to the last that isn't zero.
+fn without_zeros(words: &[u32]) -> usize {
+    let mut i = words.len();
+    while i > 0 {
+        if words[i - 1] != 0 {
+            return i;
+        }
+        i -= 1;
+    }
+    0
+}
+
+// A letter, and the words without the zeros at their end.
+pub fn put_lent(out: &mut [u8], held: usize, letter: u8, words: &[u32]) -> usize {
+    let held = put(out, held, b' ');
+    let held = put(out, held, letter);
+    put_words(out, held, words, without_zeros(words))
+}

@@ -1,0 +1,5 @@
+pub mod Offspring
+pub mod Additions
+pub mod Sweeps
+pub mod Visiting
+pub mod Marks
