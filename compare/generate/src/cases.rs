@@ -30,7 +30,7 @@ pub fn case(op: u8, random: &mut Random) -> Case {
         6 => Case::Table(table(random)),
         7 => name_order(random),
         8 => sheet(random),
-        9..=17 => on_type(op, random),
+        9..=17 | 20 => on_type(op, random),
         18 => compact(random),
         19 => equal(random),
         _ => panic!("no operation {op}"),

@@ -26,7 +26,7 @@ pub fn cases(op: u8) -> Vec<Case> {
             .into(),
         7 => vec![Case::Names(vec![b'x'; 64], vec![b'x'; 63])],
         8 => sheets(),
-        9..=17 => on_types(|host, root| vec![Case::OnType(op, host, root)]),
+        9..=17 | 20 => on_types(|host, root| vec![Case::OnType(op, host, root)]),
         18 => on_types(|host, root| {
             let target = host.memory.clone();
             let none = Memory::default();

@@ -17,7 +17,7 @@ pub fn cases(op: u8) -> Vec<Case> {
             .collect(),
         7 => names(),
         8 => sheets(),
-        9..=17 => types(|host, root| Case::OnType(op, host, root)),
+        9..=17 | 20 => types(|host, root| Case::OnType(op, host, root)),
         18 => types(|host, root| Case::Compact(host.clone(), root, host.memory)),
         19 => equals(),
         _ => panic!("no operation {op}"),

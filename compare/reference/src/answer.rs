@@ -51,6 +51,7 @@ fn on_type(op: u8, host: &Host, root: u32) -> String {
         15 => ask(TypeArena::has_shared_tyvar_across_lambda_params),
         16 => said(calls::unwrap_named(host, root).map(|number| format!("ok {number}"))),
         17 => changed(host, calls::set_ops(host, root)),
+        20 => said(calls::reachable(host, root).map(|count| format!("ok {count}"))),
         _ => unreachable!("no such operation"),
     }
 }

@@ -120,6 +120,11 @@ pub fn unwrap_named(host: &Host, root: u32) -> Reply<u32> {
     Ok(rust(host, root)?.unwrap_named(root))
 }
 
+/// How many nodes are reachable: the Rust copies each of them once, and no other, into an empty arena.
+pub fn reachable(host: &Host, root: u32) -> Reply<usize> {
+    Ok(rust(host, root)?.compact(root).0.len())
+}
+
 /// The reply, and the target afterwards: as lent after 1, 2 and 6, but clear after 7.
 pub fn compact(host: &Host, root: u32, target: &Memory) -> (Reply<u32>, Memory) {
     let source = || {

@@ -27,8 +27,8 @@ pub enum Case {
 }
 
 /// The numbers of the operations, all that there are.
-pub const OPS: [u8; 19] = [
-    1, 2, 3, 4, 5, 6, 7, 8, 9, 10, 11, 12, 13, 14, 15, 16, 17, 18, 19,
+pub const OPS: [u8; 20] = [
+    1, 2, 3, 4, 5, 6, 7, 8, 9, 10, 11, 12, 13, 14, 15, 16, 17, 18, 19, 20,
 ];
 
 /// Cases are taken from the front.
@@ -103,7 +103,7 @@ impl Iterator for Reader<'_> {
             6 => Case::Table(self.text(2)),
             7 => Case::Names(self.text(1), self.text(1)),
             8 => Case::Sheet(self.text(4)),
-            op @ 9..=17 => Case::OnType(op as u8, self.host(), self.word()),
+            op @ (9..=17 | 20) => Case::OnType(op as u8, self.host(), self.word()),
             18 => Case::Compact(self.host(), self.word(), self.memory()),
             19 => Case::Equal((self.host(), self.word()), (self.host(), self.word())),
             op => panic!("no operation {op}"),

@@ -67,6 +67,9 @@ module _ {w s : List ℕ} {c : Counters} {ws : List ℕ} where
       headed = omega (arith, node-words, length-encode (F .node));
     }
 
+    pub nodes-room : c .nodes ≤ length s
+    nodes-room = start-room (F .holds)
+
     pub used-room : c .words ≤ length w
     used-room = word-room (F .holds)
 
@@ -104,13 +107,13 @@ module _ {w s : List ℕ} {c : Counters} {ws : List ℕ} where
         is = λ t a x H N. sym (ap (reply-of w s c) (intern-full (length w) (length s) x a (not-there t a x H N) (not-true (has-room (length w) (length s) (x ∷ a)) (f t a x H N))));
       }
 
-      pub no-starts : length s ≤ c .nodes → Interns w s c ws w s (interned.Refused 7)
+      pub no-starts : length s - c .nodes < 1 → Interns w s c ws w s (interned.Refused 7)
       no-starts h = answer-full (λ t a x H N b. omega (arith, room-parts (length w) (length s) x a b .1, H .nodes))
 
       pub no-words : length w - c .words < length ws → Interns w s c ws w s (interned.Refused 7)
       no-words h = answer-full (λ t a x H N b. omega (arith, room-parts (length w) (length s) x a b .0, flat-more H x, ap length (N .words), word-room H))
 
-      pub answer-new : c .nodes < length s → length ws ≤ length w - c .words → {w′ : List ℕ} → Pasted w (c .words) ws w′
+      pub answer-new : 1 ≤ length s - c .nodes → length ws ≤ length w - c .words → {w′ : List ℕ} → Pasted w (c .words) ws w′
           → Interns w s c ws w′ (set s (c .nodes) (c .words)) (interned.Node (c .nodes) (record { nodes = c .nodes + 1; words = c .words + length ws }))
       unfolding reply-of
       answer-new h l P = record {
@@ -118,6 +121,6 @@ module _ {w s : List ℕ} {c : Counters} {ws : List ℕ} where
             let k = ap length (N .words) in
             let m = flat-more H x in
             finished (x ∷ a) (length w) (length s) (H .nodes) (omega (arith, H .nodes)) (omega arith)
-            (P .is ∙ ap (λ (v : List ℕ). paste w (c .words) v (length v)) (N .words) ∙ words-more H x) (starts-more H x h)
+            (P .is ∙ ap (λ (v : List ℕ). paste w (c .words) v (length v)) (N .words) ∙ words-more H x) (starts-more H x (omega arith))
             ∙ sym (ap (reply-of w s c) (intern-new (length w) (length s) x a (not-there t a x H N) (parts-room (length w) (length s) x a (omega (arith, word-room H)) (omega (arith, H .nodes)))));
       }

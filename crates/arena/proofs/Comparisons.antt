@@ -20,7 +20,7 @@ use Rattle.arena.specs.declared.Compared.{Compared}
 use Rattle.arena.specs.declared.Compared.the-variants as compared
 use Rattle.arena.specs.declared.sound.Judged.{Judged}
 use Rattle.arena.specs.declared.sound.Judged.the-variants as verdict
-use Rattle.arena.proofs.Verdicts.{lent-refused, lent-names, asked-both}
+use Rattle.arena.proofs.Verdicts.{lent-refused, lent-done}
 
 abbrev answer : ℕ → ℕ → Arena → Out Ordering
 answer m n a = ok (node-order (at a m) (at a n))
@@ -51,12 +51,6 @@ module _ (t w s : List ℕ) (c : Counters) (m n : ℕ) {r : Judged} (e : judged-
   unfolding compare-reply
   compare-refused p = sym (lent-refused t w s c e (λ (ns : List Name). comparing m n) p)
 
-  pub compare-lent : {k : ℕ} → r ≡ verdict.Names k → Lent w s c
-  compare-lent {k} p = let L = lent-names t w s c e p in record { table = k; view = L .view; holds = L .holds }
-
   pub compare-done : {k x y : ℕ} {o : Compared} → r ≡ verdict.Names k → x ≡ m → y ≡ n → ComparesIn w s c x y o → compared-out o ≡ compare-reply t w s c m n
   unfolding compare-reply
-  compare-done {k} p u v I =
-      let L = lent-names t w s c e p in
-      let H : Holds (length (L .names)) w s c (L .view) = subst (λ (i : ℕ). Holds i w s c (L .view)) (L .count) (L .holds) in
-      I .is k (L .view) (L .holds) ∙ (λ i. comparing (u i) (v i) (L .view)) ∙ sym (asked-both t w s c (λ (ns : List Name). comparing m n) (L .names) (L .is) (L .view) H)
+  compare-done p u v I = lent-done t w s c e p (comparing m n) (λ k a H. I .is k a H ∙ (λ i. comparing (u i) (v i) a))

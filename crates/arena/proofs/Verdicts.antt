@@ -20,6 +20,7 @@ use Rattle.names.specs.Reply.{table-reply, table-out}
 use Rattle.names.specs.declared.Table.{Table}
 use Rattle.names.specs.declared.Table.the-variants as table
 use Rattle.names.proofs.Replies.{counted, faulty}
+use Rattle.arena.specs.Stored.{Lent}
 use Rattle.arena.specs.Sound.{is-some, is-sound, lent-reply, judged-out}
 use Rattle.arena.specs.declared.sound.Judged.{Judged}
 use Rattle.arena.specs.declared.sound.Judged.the-variants as verdict
@@ -33,24 +34,24 @@ pub record Held (t w s : List ℕ) (c : Counters) (n : ℕ) : Type 0 where
   pub holds : Holds n w s c view
 
 -- lent memory, by the first number that is true of it
-data Lent (t w s : List ℕ) (c : Counters) : Type 0 where
-  good : (n : ℕ) → Held t w s c n → Lent t w s c
-  bad-table : names-of t ≡ none → Lent t w s c
-  bad-memory : (ns : List Name) → names-of t ≡ some ns → ((a : Arena) → Holds (length ns) w s c a → ⊥) → Lent t w s c
+data Verdict (t w s : List ℕ) (c : Counters) : Type 0 where
+  good : (n : ℕ) → Held t w s c n → Verdict t w s c
+  bad-table : names-of t ≡ none → Verdict t w s c
+  bad-memory : (ns : List Name) → names-of t ≡ some ns → ((a : Arena) → Holds (length ns) w s c a → ⊥) → Verdict t w s c
 
 -- a call that asks for names and arena first
 abbrev asked : {A : Type 0} → List ℕ → List ℕ → List ℕ → Counters → (List Name → Arena → Out A) → Out A
 asked t w s c f = tabled (names-of t) (λ (ns : List Name). judged (length ns) w s c (f ns))
 
 module _ (t w s : List ℕ) (c : Counters) where
-  lent : Lent t w s c
+  lent : Verdict t w s c
   lent = go (names-of t) refl
     where
-      memory : (ns : List Name) → names-of t ≡ some ns → (o : Option Arena) → arena-of (length ns) w s c ≡ o → Lent t w s c
+      memory : (ns : List Name) → names-of t ≡ some ns → (o : Option Arena) → arena-of (length ns) w s c ≡ o → Verdict t w s c
       memory ns p (some a) q = good (length ns) (record { names = ns; is = p; count = refl; view = a; holds = holds-arena-of q })
       memory ns p none q = bad-memory ns p (λ a H. let e = arena-of-holds H in let z : _≡_ {A = ℕ} 0 1 = cc in omega arith)
 
-      go : (o : Option (List Name)) → names-of t ≡ o → Lent t w s c
+      go : (o : Option (List Name)) → names-of t ≡ o → Verdict t w s c
       go none p = bad-table p
       go (some ns) p = memory ns p (arena-of (length ns) w s c) refl
 
@@ -106,7 +107,7 @@ module _ (t w s : List ℕ) (c : Counters) {r : Judged} (e : judged-out r ≡ le
   pub lent-names : {n : ℕ} → r ≡ verdict.Names n → Held t w s c n
   lent-names {n} p = go (lent t w s c) (sym (ap judged-out p) ∙ e)
     where
-      go : Lent t w s c → ok n ≡ lent-reply t w s c → Held t w s c n
+      go : Verdict t w s c → ok n ≡ lent-reply t w s c → Held t w s c n
       go (good m H) q = let h = reply-good t w s c m H in let k : m ≡ n = cc in subst (Held t w s c) k H
       go (bad-table u) q = let h = reply-1 t w s c u in let z : _≡_ {A = ℕ} 0 1 = cc in absurd (omega arith)
       go (bad-memory ns u v) q = let h = reply-2 t w s c ns u v in let z : _≡_ {A = ℕ} 0 1 = cc in absurd (omega arith)
@@ -114,7 +115,19 @@ module _ (t w s : List ℕ) (c : Counters) {r : Judged} (e : judged-out r ≡ le
   pub lent-refused : {A : Type 0} (f : List Name → Arena → Out A) {n : ℕ} → r ≡ verdict.Refused n → tabled (names-of t) (λ (ns : List Name). judged (length ns) w s c (f ns)) ≡ refuse n
   lent-refused {A} f {n} p = go (lent t w s c) (sym (ap judged-out p) ∙ e)
     where
-      go : Lent t w s c → refuse n ≡ lent-reply t w s c → asked t w s c f ≡ refuse n
+      go : Verdict t w s c → refuse n ≡ lent-reply t w s c → asked t w s c f ≡ refuse n
       go (good m H) q = let h = reply-good t w s c m H in let z : _≡_ {A = ℕ} 0 1 = cc in absurd (omega arith)
       go (bad-table u) q = let h = reply-1 t w s c u in let k : 1 ≡ n = cc in asked-1 t w s c f u ∙ ap refuse k
       go (bad-memory ns u v) q = let h = reply-2 t w s c ns u v in let k : 2 ≡ n = cc in asked-2 t w s c f ns u v ∙ ap refuse k
+
+  module _ {n : ℕ} (p : r ≡ verdict.Names n) where
+    pub lent-known : Lent w s c
+    lent-known = let L = lent-names p in record { table = n; view = L .view; holds = L .holds }
+
+    -- what is answered of every arena that memory holds is the call's answer
+    pub lent-done : {A : Type 0} (f : Arena → Out A) {o : Out A} → ((k : ℕ) (a : Arena) → Holds k w s c a → o ≡ f a)
+        → o ≡ tabled (names-of t) (λ (ns : List Name). judged (length ns) w s c f)
+    lent-done f I =
+        let L = lent-names p in
+        let H : Holds (length (L .names)) w s c (L .view) = subst (λ (i : ℕ). Holds i w s c (L .view)) (L .count) (L .holds) in
+        I n (L .view) (L .holds) ∙ sym (asked-both t w s c (λ (ns : List Name). f) (L .names) (L .is) (L .view) H)

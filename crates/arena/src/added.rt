@@ -35,7 +35,7 @@ pub fn intern_node(words: &mut [u32], starts: &mut [u32], c: Counters, node: &[u
     if let Found::At(i) = found {
         return Interned::Node(i as u32, c);
     }
-    if nodes >= starts.len() {
+    if starts.len() - nodes < 1 {
         return Interned::Refused(7);
     }
     if words.len() - used < node.len() {

@@ -1,7 +1,7 @@
 -- One word: a bit by halving is what a shift reads, and what `|` sets.
 use Prim.Native.Nat.{ℕ, zero, suc, _+_, _*_, _/_, _%_, _^_, _<_, max}
 use mathlib.Core.Path.{_≡_, refl, sym, ap, _∙_}
-use mathlib.Core.Bool.{Bool, true, false}
+use mathlib.Core.Bool.{Bool, true, false, _||_}
 use native.Mathlib.Nat.{pow-suc, pow-zero, div-div-eq-div-mul, mul-comm, div-one}
 use native.Mathlib.Omega.{arith}
 use lib.Dec.{eqb}
@@ -50,3 +50,18 @@ zero-bit (suc b) = zero-bit b
 -- a one shifted within the word
 pub one-shifted : (b : ℕ) → b < 64 → (1 * 2 ^ b) % 18446744073709551616 ≡ 2 ^ b
 one-shifted b h = shl-exact {a = 1} 1 b 64 (omega arith) (omega arith) ∙ omega arith
+
+-- each bit of `|` is that of either word
+odd-max : (x y : ℕ) → x < 2 → y < 2 → eqb (max x y) 1 ≡ (eqb x 1 || eqb y 1)
+odd-max zero zero p q = refl
+odd-max zero (suc zero) p q = refl
+odd-max zero (suc (suc y)) p q = absurd (omega arith)
+odd-max (suc zero) zero p q = refl
+odd-max (suc zero) (suc zero) p q = refl
+odd-max (suc zero) (suc (suc y)) p q = absurd (omega arith)
+odd-max (suc (suc x)) y p q = absurd (omega arith)
+
+pub bit-or : (x y b : ℕ) → bit (bitOr x y) b ≡ (bit x b || bit y b)
+unfolding bit
+bit-or x y zero = ap (λ (k : ℕ). eqb k 1) (or-odd x y) ∙ odd-max (x % 2) (y % 2) (omega arith) (omega arith)
+bit-or x y (suc b) = ap (λ (k : ℕ). bit k b) (or-half x y) ∙ bit-or (x / 2) (y / 2) b

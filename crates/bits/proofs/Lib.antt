@@ -1,3 +1,4 @@
 pub mod Halves
 pub mod Sets
 pub mod Steps
+pub mod Unions

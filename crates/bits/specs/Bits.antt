@@ -1,7 +1,7 @@
 -- Sets of numbers, one bit a number in words of 64 bits (01, "Forms of the Rust that can't be kept": visited sets).
 use Prim.Native.Nat.{ℕ, zero, suc, _/_, _%_, _^_, _≤_, _<_}
 use mathlib.Core.Path.{_≡_}
-use mathlib.Core.Bool.{Bool, true, false}
+use mathlib.Core.Bool.{Bool, true, false, _||_}
 use mathlib.Core.List.{List}
 use lib.ListN.{length, getD}
 use lib.Count.{ones}
@@ -27,6 +27,11 @@ pub record Put (s : List ℕ) (n : ℕ) (t : List ℕ) : Type 0 where
   pub long : length t ≡ length s
   pub new : has t n ≡ true
   pub old : (m : ℕ) → (m ≡ n → ⊥) → has t m ≡ has s m
+
+-- r is the union of two sets
+pub record Union (s t r : List ℕ) : Type 0 where
+  pub is : (n : ℕ) → n < 4096 → has r n ≡ (has s n || has t n)
+  pub beyond : (n : ℕ) → 4096 ≤ n → has r n ≡ false
 
 -- how many of the numbers below n pass the test?
 unfoldable pub count-below : (ℕ → Bool) → ℕ → ℕ

@@ -1,7 +1,7 @@
 // Sets of node numbers, one bit a node: 64 words of 64 bits. The laws of proofs/Sets.antt hold for rows of any length.
 ghost use Prim.Native.Nat.{_<_};
 ghost use mathlib.Core.Path.{_≡_};
-ghost use Rattle.bits.specs.Bits.{has, Row, Put, count-below, Ones};
+ghost use Rattle.bits.specs.Bits.{has, Row, Put, Union, count-below, Ones};
 
 // Whether n is in the set.
 pub fn test(seen: &[u64; 64], n: u32) -> bool
@@ -43,4 +43,17 @@ pub fn count(seen: &[u64; 64]) -> u32
         i += 1;
     }
     sum
+}
+
+// The numbers of either set.
+pub fn union(s: &[u64; 64], t: &[u64; 64]) -> [u64; 64]
+    ensures { λ r. ⌜ Union (now (s .entry)) (now (t .entry)) r ⌝ }
+{
+    let mut r = [0u64; 64];
+    let mut i = 0;
+    while i < 64 {
+        r[i] = s[i] | t[i];
+        i += 1;
+    }
+    r
 }

@@ -14,20 +14,14 @@ use Rattle.words.specs.Words.{head-kind, head-dynamic, head-count}
 use Rattle.types.specs.Kind.{Kind, kind-of}
 use Rattle.types.specs.Out.{number}
 use Rattle.types.specs.Node.{below, rising, decode}
-use Rattle.types.specs.Fault.{head-fits, kind-body-fits, fits, kind-children, kind-names, children-in, names-in, fault}
+use Rattle.types.specs.Fault.{head-fits, kind-body-fits, fits, kind-children, kind-names, children-in, names-in, first, fault}
 use Rattle.types.proofs.Lists.{below-by}
 use Rattle.types.proofs.Faults.{fault-decode}
-use Rattle.node_faults.specs.Steps.{first, body-fault, kind-fault}
+use Rattle.node_faults.specs.Steps.{body-fault, kind-fault}
 
 fault-first : (table nodes : ℕ) (ws : List ℕ) → fault table nodes ws ≡ first (fits ws) (below nodes (children-in ws) && below table (names-in ws)) (rising (names-in ws))
 unfolding fault
-fault-first table nodes ws = go (fits ws) (below nodes (children-in ws) && below table (names-in ws)) (rising (names-in ws))
-  where
-    go : (f l r : Bool) → elim f as (λ _. ℕ) [ false ↦ 3 | true ↦ elim l as (λ _. ℕ) [ false ↦ 4 | true ↦ elim r as (λ _. ℕ) [ false ↦ 5 | true ↦ 0 ] ] ] ≡ first f l r
-    go false l r = refl
-    go true false r = refl
-    go true true false = refl
-    go true true true = refl
+fault-first table nodes ws = refl
 
 -- under a head that fits and counts the words after it, their fault is the node's
 fault-kind : (table nodes h : ℕ) (b : List ℕ) → head-fits h ≡ true → length b ≡ head-count h → fault table nodes (h ∷ b) ≡ kind-fault table nodes (kind-of (head-kind h)) (head-dynamic h) b

@@ -11,8 +11,8 @@ use borrow.Author.Tests.{lt-ltb, le-ltb}
 use Rattle.words.specs.Words.{bit, child, child-zero, field-name, field-zero, field-optional}
 use Rattle.types.specs.Kind.{code, children, fields, name}
 use Rattle.types.specs.Node.{below, rising, children-of}
-use Rattle.types.specs.Fault.{each-zero, body-fits}
-use Rattle.node_faults.specs.Steps.{first, body-fault}
+use Rattle.types.specs.Fault.{each-zero, body-fits, first}
+use Rattle.node_faults.specs.Steps.{body-fault}
 
 pub no-word : (b : List ℕ) → length b ≡ 0 → 0 ≡ getD b 0 0
 no-word [] e = refl

@@ -2,7 +2,7 @@
 use mathlib.Core.Path.{_≡_}
 use mathlib.Core.Bool.{Bool, true, false, not}
 use borrow.Author.Tests.{not-true, not-false}
-use Rattle.node_faults.specs.Steps.{first}
+use Rattle.types.specs.Fault.{first}
 
 module _ (f l r : Bool) where
   pub first-unfit : not f ≡ true → 3 ≡ first f l r

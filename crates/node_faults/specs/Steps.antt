@@ -7,7 +7,7 @@ use lib.Dec.{leb}
 use Rattle.words.specs.Words.{field-name}
 use Rattle.types.specs.Kind.{Kind, body-count, Body, body-of}
 use Rattle.types.specs.Node.{below, rising, children-of}
-use Rattle.types.specs.Fault.{field-part, body-fits}
+use Rattle.types.specs.Fault.{field-part, body-fits, first}
 
 -- is n one of low to high?
 abbrev pub within : ℕ → ℕ → ℕ → Bool
@@ -18,13 +18,6 @@ unfoldable pub count-fits : Option Kind → Bool → ℕ → Bool
 unfolding body-count
 count-fits none d n = false
 count-fits (some k) d n = body-count k d n
-
--- the number of the first test that fails, 0 where none does: do the words fit, are their children and names there, do the names rise? (01, "Who can cause which number")
-abbrev pub first : Bool → Bool → Bool → ℕ
-first false l r = 3
-first true false r = 4
-first true true false = 5
-first true true true = 0
 
 -- the fault of a body under a head that fits and counts its words
 unfoldable pub body-fault : ℕ → ℕ → Body → Bool → List ℕ → ℕ

@@ -17,8 +17,8 @@ ghost use Rattle.words.specs.Words.{bit, child, child-zero, field-name, field-z
 ghost use Rattle.types.specs.Kind.{kind-of, children, code, fields, name};
 ghost use Rattle.types.specs.Out.{number};
 ghost use Rattle.types.specs.Node.{below, rising, decode};
-ghost use Rattle.types.specs.Fault.{head-fits, each-zero};
-ghost use Rattle.node_faults.specs.Steps.{within, count-fits, first, body-fault, kind-fault};
+ghost use Rattle.types.specs.Fault.{head-fits, each-zero, first};
+ghost use Rattle.node_faults.specs.Steps.{within, count-fits, body-fault, kind-fault};
 
 // Whether n is one of low to high.
 fn within(low: usize, high: usize, n: usize) -> bool

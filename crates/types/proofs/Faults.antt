@@ -14,7 +14,7 @@ use Rattle.types.specs.Kind as kinds
 use Rattle.types.specs.Kind.{Kind, disc, kind-of, body-count, Body, body-of}
 use Rattle.types.specs.Out.{number}
 use Rattle.types.specs.Node.{positive, negative, Field, field, primitive, list, lambda, attrset, named, Tag, members, bound, var, neg, form, Node, node, tag, children, kind, Data, nothing, data-of, field-names, names, child-words, body, head-of, encode, below, matched, formed, linked, rising, field-of, tag-of, children-of, guess-kind, guess, is-words, decode}
-use Rattle.types.specs.Fault.{flags-fit, kind-fits, head-fits, field-part, child-part, own-fits, each-zero, body-fits, kind-body-fits, fits, kind-children, kind-names, children-in, names-in, fault}
+use Rattle.types.specs.Fault.{flags-fit, kind-fits, head-fits, field-part, child-part, own-fits, each-zero, body-fits, kind-body-fits, fits, kind-children, kind-names, children-in, names-in, first, fault}
 use Rattle.types.proofs.Tests.{true-false, and-true, both, same-truth}
 use Rattle.types.proofs.Lists.{below-cons, below-map}
 use Rattle.types.proofs.KindNumbers.{kind-of-disc, disc-kind-of}
@@ -325,18 +325,15 @@ linked-parts : (table nodes : ℕ) (x : Node) → linked table nodes x ≡ (belo
 unfolding linked
 linked-parts table nodes (node t cs) = refl
 
-first : Bool → Bool → Bool → ℕ
-first b l r = elim b [ false ↦ 3 | true ↦ elim l [ false ↦ 4 | true ↦ elim r [ false ↦ 5 | true ↦ 0 ] ] ]
-
 first-answer : (x : Node) (b l r : Bool) → number (answer x b l r) ≡ first b l r
-unfolding answer first
+unfolding answer
 first-answer x false l r = refl
 first-answer x true false r = refl
 first-answer x true true false = refl
 first-answer x true true true = refl
 
 first-fits : (table nodes : ℕ) (ws : List ℕ) (f : Bool) → fits ws ≡ f → first f (linked table nodes (guess ws)) (rising (names (tag (guess ws)))) ≡ first f (below nodes (children-in ws) && below table (names-in ws)) (rising (names-in ws))
-unfolding first fits
+unfolding fits
 first-fits table nodes ws false e = refl
 first-fits table nodes [] true e = absurd (true-false (sym e))
 first-fits table nodes (h ∷ b) true e =
@@ -346,7 +343,7 @@ first-fits table nodes (h ∷ b) true e =
 
 -- the first of 3, 4 and 5, read off field by field, is `decode`'s
 pub fault-decode : (table nodes : ℕ) (ws : List ℕ) → below (2 ^ 32) ws ≡ true → number (decode table nodes ws) ≡ fault table nodes ws
-unfolding fault first
+unfolding fault
 fault-decode table nodes ws l =
     ap number (by-guess table nodes ws)
     ∙ first-answer (guess ws) (is-words ws (guess ws)) (linked table nodes (guess ws)) (rising (names (tag (guess ws))))

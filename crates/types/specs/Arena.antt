@@ -8,6 +8,7 @@ use lib.Dec.{eqb}
 use Rattle.types.specs.Same.{same}
 use Rattle.types.specs.Node.{Node, node, Tag, bound, positive, tag, children, node-dec, encode, well}
 
+-- the newest node first
 abbrev pub Arena : Type 0
 Arena = List Node
 
@@ -34,6 +35,7 @@ unfolding same node-dec
 find x [] = none
 find x (y ∷ s) = elim (same node-dec x y) [ true ↦ some (length s) | false ↦ find x s ]
 
+-- was nothing found?
 abbrev pub absent : Option ℕ → Bool
 absent none = true
 absent (some n) = false

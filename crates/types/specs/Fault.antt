@@ -18,6 +18,7 @@ flags-fit children o d = not o && not d
 flags-fit fields o d = true
 flags-fit name o d = not o && not d
 
+-- flags and count fit the kind, where there is one
 abbrev pub kind-fits : Option Kind → Bool → Bool → ℕ → Bool
 kind-fits none o d n = false
 kind-fits (some k) o d n = flags-fit (body-of k) o d && body-count k d n
@@ -63,6 +64,7 @@ unfoldable pub body-fits : Body → Bool → List ℕ → Bool
 unfolding each-zero field-zero child-zero field-optional
 body-fits s d b = own-fits s b && (each-zero field-zero (field-part s d b) && each-zero child-zero (child-part s d b))
 
+-- the same of a head's kind, where there is one
 abbrev pub kind-body-fits : Option Kind → Bool → List ℕ → Bool
 kind-body-fits none d b = false
 kind-body-fits (some k) d b = body-fits (body-of k) d b
@@ -73,6 +75,7 @@ unfolding head-fits body-fits head-count head-kind head-dynamic kind-of
 fits [] = false
 fits (h ∷ b) = head-fits h && (eqb (length b) (head-count h) && kind-body-fits (kind-of (head-kind h)) (head-dynamic h) b)
 
+-- the children, and the numbers of the names, in a body under a head of this kind
 abbrev pub kind-children : Option Kind → List ℕ → List ℕ
 kind-children none b = []
 kind-children (some k) b = children-of (body-of k) b
@@ -92,13 +95,14 @@ unfolding head-kind head-dynamic kind-of field-name
 names-in [] = []
 names-in (h ∷ b) = kind-names (kind-of (head-kind h)) (head-dynamic h) b
 
--- the first number that is true of a node's words, 0 where none is: 3; then 4, a child or a name that isn't there; then 5, names that don't rise
+-- the number of the first test that fails, 0 where none does: do the words fit, are their children and names there, do the names rise?
+abbrev pub first : Bool → Bool → Bool → ℕ
+first false l r = 3
+first true false r = 4
+first true true false = 5
+first true true true = 0
+
+-- the first number that is true of a node's words, 0 where none is (01, "Who can cause which number")
 unfoldable pub fault : ℕ → ℕ → List ℕ → ℕ
 unfolding fits below rising children-in names-in
-fault table nodes ws = elim (fits ws) [
-  | false ↦ 3
-  | true ↦ elim (below nodes (children-in ws) && below table (names-in ws)) [
-    | false ↦ 4
-    | true ↦ elim (rising (names-in ws)) [ false ↦ 5 | true ↦ 0 ]
-  ]
-]
+fault table nodes ws = first (fits ws) (below nodes (children-in ws) && below table (names-in ws)) (rising (names-in ws))

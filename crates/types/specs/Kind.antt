@@ -35,6 +35,7 @@ disc intersection = 8
 disc named = 9
 disc neg = 10
 
+-- in the order of their numbers
 abbrev pub kinds : List Kind
 kinds = bottom ∷ top ∷ primitive ∷ ty-var ∷ list ∷ lambda ∷ attr-set ∷ union ∷ intersection ∷ named ∷ neg ∷ []
 
@@ -65,6 +66,7 @@ pub data Body : Type 0 where
   fields : Body
   name : Body
 
+-- (01, "Words of the arena")
 abbrev pub body-of : Kind → Body
 body-of bottom = empty
 body-of top = empty

@@ -35,6 +35,7 @@ words-of n a = padded n (flat a)
 abbrev pub starts-of : ℕ → Arena → List ℕ
 starts-of n a = padded n (heads a)
 
+-- the counters that go with an arena
 abbrev pub counters-of : Arena → Counters
 counters-of a = record { nodes = length a; words = length (flat a) }
 

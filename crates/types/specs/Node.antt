@@ -44,10 +44,12 @@ pub data Tag : Type 0 where
   form : Form → Tag
   deriving Discrete as Tag-dec
 
+-- a node: its tag and its children's numbers, in their order
 pub data Node : Type 0 where
   node : Tag → List ℕ → Node
   deriving Discrete as Node-dec
 
+-- two nodes are equal, or they are not
 unfoldable pub form-dec : Discrete Form
 unfolding list-dec ℕ-discrete
 form-dec = Form-dec ℕ-discrete (list-dec (Field-dec Bool-discrete ℕ-discrete)) Bool-discrete
@@ -63,6 +65,7 @@ abbrev pub children : Node → List ℕ
 children (node t cs) = cs
 
 -- ---- the words of a node
+-- the kind that its head has (01, "Words of the arena")
 abbrev pub kind : Tag → Kind
 kind (members positive) = kinds.union
 kind (members negative) = kinds.intersection
@@ -85,9 +88,11 @@ pub record Data : Type 0 where
   pub dynamic : Bool
   pub opened : Bool
 
+-- nothing of all that
 abbrev pub nothing : Data
 nothing = record { numbers = []; limit = 0; fields = []; dynamic = false; opened = false }
 
+-- variables fill a word, codes go to 7; sets and `Named` have names
 abbrev pub data-of : Tag → Data
 data-of (members k) = nothing
 data-of (bound k) = nothing
@@ -104,6 +109,7 @@ abbrev pub field-names : List Field → List ℕ
 field-names [] = []
 field-names (field o n ∷ fs) = n ∷ field-names fs
 
+-- those of a tag
 abbrev pub names : Tag → List ℕ
 names t = field-names (data-of t .fields)
 
@@ -114,6 +120,7 @@ child-words [] cs = cs
 child-words (f ∷ fs) [] = []
 child-words (field o n ∷ fs) (c ∷ cs) = field-word o n c ∷ child-words fs cs
 
+-- the words behind the head: a number of the node's own, or its children
 abbrev pub body : Node → List ℕ
 body (node t cs) = data-of t .numbers ++ child-words (data-of t .fields) cs
 
@@ -167,6 +174,7 @@ unfolding formed linked rising
 well table nodes x = formed x && (linked table nodes x && rising (names (tag x)))
 
 -- ---- from words to the node
+-- what a field word says besides its child
 abbrev pub field-of : ℕ → Field
 field-of w = field (field-optional w) (field-name w)
 
@@ -195,6 +203,7 @@ children-of kinds.children b = map child b
 children-of kinds.fields b = map child b
 children-of kinds.name b = map child b
 
+-- the only node that a head of this kind can have over this body; a head of no kind has none, and `never` has other words
 abbrev pub guess-kind : Option Kind → Bool → Bool → List ℕ → Node
 guess-kind none o d b = node (bound positive) []
 guess-kind (some k) o d b = node (tag-of k o d b) (children-of (body-of k) b)

@@ -6,6 +6,7 @@ use lib.ListN.{length, getD}
 use Rattle.types.specs.Node.{Polarity, positive, negative, Field, Form, primitive, list, lambda, attrset, named, Tag, members, bound, var, neg, form, Node, node, tag, children}
 use Rattle.types.specs.Arena.{Arena, at}
 
+-- the other side
 abbrev pub opposite : Polarity → Polarity
 opposite positive = negative
 opposite negative = positive

@@ -18,6 +18,8 @@ use types::Counters;
 use types::Ordering;
 use types::arc_ty::tyvar_name;
 use types::arc_ty::wide;
+use walks::reach::Counted;
+use walks::reach::count_reachable;
 
 // An answer put, or none.
 pub enum Step {
@@ -42,6 +44,12 @@ fn line(used: usize, out: &mut [u8], held: usize, text: &[u8]) -> Step {
 fn refused(out: &mut [u8], held: usize, number: u32) -> usize {
     let held = put_text(out, held, b"refused ");
     put_decimal(out, held, wide(number))
+}
+
+fn accepted(used: usize, out: &mut [u8], held: usize, number: usize) -> Step {
+    let held = put_text(out, held, b"ok ");
+    let held = put_decimal(out, held, number);
+    done(used, out, held)
 }
 
 fn ordered(used: usize, out: &mut [u8], held: usize, order: Ordering) -> Step {
@@ -75,11 +83,7 @@ pub fn table(s: &[u8], out: &mut [u8], held: usize) -> Step {
     }
     let checked = check_names(part(s, 3, end));
     match checked {
-        Table::Names(count) => {
-            let held = put_text(out, held, b"ok ");
-            let held = put_decimal(out, held, count);
-            done(end, out, held)
-        }
+        Table::Names(count) => accepted(end, out, held, count),
         Table::Refused(number) => {
             let held = refused(out, held, number);
             done(end, out, held)
@@ -231,4 +235,36 @@ pub fn compare(
         right,
     );
     compared(end, out, held, r)
+}
+
+// What `count_reachable` answered.
+fn counted(used: usize, out: &mut [u8], held: usize, r: Counted) -> Step {
+    match r {
+        Counted::Nodes(count) => accepted(used, out, held, wide(count)),
+        Counted::Refused(number) => {
+            let held = refused(out, held, number);
+            done(used, out, held)
+        }
+    }
+}
+
+// How many nodes are reachable.
+pub fn reachable(
+    s: &[u8],
+    words: &mut [u32],
+    starts: &mut [u32],
+    out: &mut [u8],
+    held: usize,
+) -> Step {
+    let h = lend_host(s, words, starts);
+    let c = h.counters;
+    let m = h.words;
+    let n = h.starts;
+    let root = word(s, h.next);
+    let end = add(h.next, 4);
+    if s.len() < end || words.len() < m || starts.len() < n {
+        return Step::Cut;
+    }
+    let r = count_reachable(part(s, 3, h.table), &words[0..m], &starts[0..n], c, root);
+    counted(end, out, held, r)
 }

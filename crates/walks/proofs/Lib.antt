@@ -3,3 +3,5 @@ pub mod Additions
 pub mod Sweeps
 pub mod Visiting
 pub mod Marks
+pub mod Reaching
+pub mod Counting

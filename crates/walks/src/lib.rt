@@ -1,3 +1,5 @@
-// Walks over the nodes of an arena: `children` reads those of a node, `signs` marks the nodes that have a place, by sign.
+// Walks over the nodes of an arena: `children` reads those of a node, `signs` marks the nodes that have a place, by sign, and
+// `reach` those that are reachable, whose count is a call open to a host.
 pub mod children;
+pub mod reach;
 pub mod signs;

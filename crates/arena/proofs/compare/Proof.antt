@@ -1,5 +1,6 @@
 -- 1 and 2 are the verdict's; what follows them is that of `compare_in`.
-use Rattle.arena.proofs.Comparisons.{compare-refused, compare-lent, compare-done}
+use Rattle.arena.proofs.Comparisons.{compare-refused, compare-done}
+use Rattle.arena.proofs.Verdicts.{lent-known}
 use borrow.Author.Needs.{needs}
 use Rattle.arena.proofs.compare.Statement.{statement}
 use Rattle.arena.proofs.compare.Tie as tie
@@ -17,7 +18,7 @@ wide-requires-2 : tie.Need-wide-requires-2
 wide-requires-2 c κs = search needs
 
 compare-in-requires : tie.Need-compare-in-requires
-compare-in-requires c κs = search compare-lent
+compare-in-requires c κs = search lent-known
 
 enum-known-lent-2 : tie.Need-enum-known-lent-2
 enum-known-lent-2 c = search needs

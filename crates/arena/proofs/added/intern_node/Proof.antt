@@ -1,5 +1,5 @@
 -- What is found is answered; where nothing is, the node is added if starts and words have room.
-use Rattle.arena.proofs.Additions.{fresh-searched, number-fits, answer-stored, no-starts, no-words, answer-new, used-room, used-fits, words-room}
+use Rattle.arena.proofs.Additions.{fresh-searched, number-fits, answer-stored, no-starts, no-words, answer-new, nodes-room, used-room, used-fits, words-room}
 use borrow.Author.Needs.{needs}
 use Rattle.arena.proofs.added.intern_node.Statement.{statement}
 use Rattle.arena.proofs.added.intern_node.Tie as tie
@@ -24,6 +24,9 @@ returns c = search answer-stored
 
 enum-told : tie.Need-enum-told
 enum-told c = search needs
+
+sub-if1 : tie.Need-sub-if1
+sub-if1 c = search nodes-room
 
 same-length-3 : tie.Need-same-length-3
 same-length-3 c = search needs
@@ -58,8 +61,8 @@ slice-write-starts c = search needs
 put-requires : tie.Need-put-requires
 put-requires c κs = search words-room
 
-add-t17 : tie.Need-add-t17
-add-t17 c = search needs
+add-t16 : tie.Need-add-t16
+add-t16 c = search needs
 
 add-t15 : tie.Need-add-t15
 add-t15 c = search needs
@@ -87,6 +90,7 @@ intern-node-spec =
     same-length-2
     returns
     enum-told
+    sub-if1
     same-length-3
     same-length-4
     returns-2
@@ -98,7 +102,7 @@ intern-node-spec =
     mul-starts
     slice-write-starts
     put-requires
-    add-t17
+    add-t16
     add-t15
     cast-t19
     same-length-7
