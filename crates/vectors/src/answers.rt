@@ -14,6 +14,11 @@ use arena::Compared;
 use arena::added::Interned;
 use names::Table;
 use names::check_names;
+use questions::named::Unwrapped;
+use questions::named::unwrap_named;
+use questions::vars::Asked;
+use questions::vars::has_type_vars;
+use questions::vars::needs_var_normalization;
 use types::Counters;
 use types::Ordering;
 use types::arc_ty::tyvar_name;
@@ -44,6 +49,11 @@ fn line(used: usize, out: &mut [u8], held: usize, text: &[u8]) -> Step {
 fn refused(out: &mut [u8], held: usize, number: u32) -> usize {
     let held = put_text(out, held, b"refused ");
     put_decimal(out, held, wide(number))
+}
+
+fn refusal(used: usize, out: &mut [u8], held: usize, number: u32) -> Step {
+    let held = refused(out, held, number);
+    done(used, out, held)
 }
 
 fn accepted(used: usize, out: &mut [u8], held: usize, number: usize) -> Step {
@@ -84,10 +94,7 @@ pub fn table(s: &[u8], out: &mut [u8], held: usize) -> Step {
     let checked = check_names(part(s, 3, end));
     match checked {
         Table::Names(count) => accepted(end, out, held, count),
-        Table::Refused(number) => {
-            let held = refused(out, held, number);
-            done(end, out, held)
-        }
+        Table::Refused(number) => refusal(end, out, held, number),
     }
 }
 
@@ -201,10 +208,7 @@ pub fn intern(
 fn compared(used: usize, out: &mut [u8], held: usize, r: Compared) -> Step {
     match r {
         Compared::Stand(order) => ordered(used, out, held, order),
-        Compared::Refused(number) => {
-            let held = refused(out, held, number);
-            done(used, out, held)
-        }
+        Compared::Refused(number) => refusal(used, out, held, number),
     }
 }
 
@@ -241,15 +245,70 @@ pub fn compare(
 fn counted(used: usize, out: &mut [u8], held: usize, r: Counted) -> Step {
     match r {
         Counted::Nodes(count) => accepted(used, out, held, wide(count)),
-        Counted::Refused(number) => {
-            let held = refused(out, held, number);
-            done(used, out, held)
-        }
+        Counted::Refused(number) => refusal(used, out, held, number),
     }
 }
 
-// How many nodes are reachable.
-pub fn reachable(
+fn yes(used: usize, out: &mut [u8], held: usize, so: bool) -> Step {
+    if so {
+        return line(used, out, held, b"yes");
+    }
+    line(used, out, held, b"no")
+}
+
+// What a question answered.
+fn asked(used: usize, out: &mut [u8], held: usize, r: Asked) -> Step {
+    match r {
+        Asked::Is(so) => yes(used, out, held, so),
+        Asked::Refused(number) => refusal(used, out, held, number),
+    }
+}
+
+// What `unwrap_named` answered.
+fn unwrapped(used: usize, out: &mut [u8], held: usize, r: Unwrapped) -> Step {
+    match r {
+        Unwrapped::Node(number) => accepted(used, out, held, number),
+        Unwrapped::Refused(number) => refusal(used, out, held, number),
+    }
+}
+
+// The answer of the call that has this number.
+fn ask(
+    op: usize,
+    table: &[u8],
+    words: &[u32],
+    starts: &[u32],
+    c: Counters,
+    root: u32,
+    used: usize,
+    out: &mut [u8],
+    held: usize,
+) -> Step {
+    match op {
+        11 => asked(
+            used,
+            out,
+            held,
+            needs_var_normalization(table, words, starts, c, root),
+        ),
+        13 => asked(
+            used,
+            out,
+            held,
+            has_type_vars(table, words, starts, c, root),
+        ),
+        16 => unwrapped(used, out, held, unwrap_named(table, words, starts, c, root)),
+        _ => counted(
+            used,
+            out,
+            held,
+            count_reachable(table, words, starts, c, root),
+        ),
+    }
+}
+
+// A call that takes a type, reads, and changes nothing.
+pub fn on_type(
     s: &[u8],
     words: &mut [u32],
     starts: &mut [u32],
@@ -265,6 +324,15 @@ pub fn reachable(
     if s.len() < end || words.len() < m || starts.len() < n {
         return Step::Cut;
     }
-    let r = count_reachable(part(s, 3, h.table), &words[0..m], &starts[0..n], c, root);
-    counted(end, out, held, r)
+    ask(
+        byte(s, 0),
+        part(s, 3, h.table),
+        &words[0..m],
+        &starts[0..n],
+        c,
+        root,
+        end,
+        out,
+        held,
+    )
 }

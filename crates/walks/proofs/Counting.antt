@@ -1,13 +1,11 @@
--- The reachable nodes are those with a place of either sign; their count, and what the call answers on each of its ways.
+-- The reachable nodes are those with a place of either sign; their count.
 use Prim.Native.Nat.{ℕ, zero, suc, _+_, _-_, _<_, _≤_}
 use mathlib.Core.Path.{_≡_, refl, sym, ap, _∙_, subst}
 use mathlib.Core.Bool.{Bool, true, false, _||_}
 use mathlib.Core.List.{List}
 use mathlib.Core.Logic.{_⊎_, inl, inr}
-use native.Mathlib.Decide.{ℕ-discrete}
 use native.Mathlib.Omega.{arith}
 use lib.ListN.{length}
-use Rattle.types.specs.Out.{Out, ok}
 use Rattle.types.specs.Node.{Polarity, positive, negative}
 use Rattle.types.specs.Arena.{Arena}
 use Rattle.types.specs.Places.{Place, Reachable}
@@ -16,19 +14,12 @@ use Rattle.types.specs.declared.Counters.{Counters}
 use Rattle.types.proofs.Tests.{same-truth, not-true}
 use Rattle.types.proofs.Walks.{place-lower}
 use Rattle.types.proofs.Addresses.{start-room}
-use Rattle.types.proofs.Replies.{rooted-no, rooted-yes}
-use Rattle.names.specs.Table.{Name}
 use Rattle.bits.specs.Bits.{has, Union, count-below}
 use Rattle.bits.proofs.Sets.{count-same}
-use Rattle.arena.specs.Stored.{Lent, InRange}
-use Rattle.arena.specs.Sound.{lent-reply, judged-out}
-use Rattle.arena.specs.declared.sound.Judged.{Judged}
-use Rattle.arena.specs.declared.sound.Judged.the-variants as verdict
-use Rattle.arena.proofs.Verdicts.{lent-refused, lent-done}
-use Rattle.walks.specs.Signs.{side, Signs, SignsIn}
-use Rattle.walks.specs.Reach.{reaches, counting, count-reply, counted-out, ReachIn, CountsIn}
-use Rattle.walks.specs.declared.reach.Counted.{Counted}
-use Rattle.walks.specs.declared.reach.Counted.the-variants as counted
+use Rattle.arena.specs.Stored.{InRange}
+use Rattle.walks.specs.Signs.{SignsIn}
+use Rattle.walks.specs.Asked.{Says}
+use Rattle.walks.specs.Reach.{reaches, reach-count, ReachIn}
 use Rattle.walks.proofs.Reaching.{or-right, reaches-place, place-reaches}
 
 or-cases : (b c : Bool) → (b || c) ≡ true → (b ≡ true) ⊎ (c ≡ true)
@@ -84,27 +75,6 @@ counted-nodes {s = s} {r} {root = root} R table a H l =
     let q = place-lower table a (H .good) (P .place) l in
     omega (arith, k, q, l)))
 
-abbrev answer : ℕ → Arena → Out ℕ
-answer root a = ok (count-below (reaches a root) (length a))
-
-module _ {w s : List ℕ} {c : Counters} {root : ℕ} where
-  pub root-out : c .nodes ≤ root → CountsIn w s c root (counted.Refused 6)
-  unfolding counting
-  root-out h = record { is = λ table a H. sym (rooted-no root (answer root) a (omega (arith, H .nodes))) }
-
-  pub nodes-counted : root < c .nodes → {r : List ℕ} {n : ℕ} → ReachIn w s c root r → n ≡ count-below (has r) 4096 → CountsIn w s c root (counted.Nodes n)
-  unfolding counting
-  nodes-counted h R e = record {
-    is = λ table a H.
-        let l = subst (λ (k : ℕ). root < k) (H .nodes) h in
-        ap ok (e ∙ counted-nodes R table a H l) ∙ sym (rooted-yes root (answer root) a l);
-  }
-
-module _ (t w s : List ℕ) (c : Counters) (root : ℕ) {r : Judged} (e : judged-out r ≡ lent-reply t w s c) where
-  pub count-refused : {k : ℕ} → r ≡ verdict.Refused k → counted-out (counted.Refused k) ≡ count-reply t w s c root
-  unfolding count-reply
-  count-refused p = sym (lent-refused t w s c e (λ (ns : List Name). counting root) p)
-
-  pub count-done : {k x : ℕ} {o : Counted} → r ≡ verdict.Names k → x ≡ root → CountsIn w s c x o → counted-out o ≡ count-reply t w s c root
-  unfolding count-reply
-  count-done p u I = lent-done t w s c e p (counting root) (λ k a H. I .is k a H ∙ (λ i. counting (u i) a))
+pub nodes-counted : {w s r : List ℕ} {c : Counters} {root n : ℕ} → root < c .nodes → ReachIn w s c root r → n ≡ count-below (has r) 4096 → Says reach-count w s c root n
+unfolding reach-count
+nodes-counted {root = root} h R e = record { is = λ table a H. e ∙ counted-nodes R table a H (subst (λ (k : ℕ). root < k) (H .nodes) h) }

@@ -3,5 +3,6 @@ pub mod Additions
 pub mod Sweeps
 pub mod Visiting
 pub mod Marks
+pub mod Asking
 pub mod Reaching
 pub mod Counting

@@ -9,9 +9,7 @@ use Rattle.types.specs.Out.{Out, ok, refuse}
 use Rattle.types.specs.Node.{Node, children}
 use Rattle.types.specs.Arena.{Arena, rec}
 use Rattle.types.specs.Memory.{Holds}
-use Rattle.types.specs.Reply.{tabled, judged, rooted}
 use Rattle.types.specs.declared.Counters.{Counters}
-use Rattle.names.specs.Table.{Name, names-of}
 use Rattle.bits.specs.Bits.{has, count-below}
 use Rattle.walks.specs.declared.reach.Counted.{Counted}
 use Rattle.walks.specs.declared.reach.Counted.the-variants as counted
@@ -26,15 +24,10 @@ unfoldable pub reaches : Arena → ℕ → ℕ → Bool
 unfolding rec some-of
 reaches = rec (λ (s : Arena) (x : Node) (f : ℕ → ℕ → Bool) (u : ℕ). eqb u (length s) || some-of (map (λ (c : ℕ). f c u) (children x))) (λ u. false)
 
--- the number of reachable nodes, after 6
-unfoldable pub counting : ℕ → Arena → Out ℕ
-unfolding rooted reaches count-below
-counting root = rooted root (λ (a : Arena). ok (count-below (reaches a root) (length a)))
-
--- before that 1 and 2
-unfoldable pub count-reply : List ℕ → List ℕ → List ℕ → Counters → ℕ → Out ℕ
-unfolding tabled names-of judged counting
-count-reply t w s c root = tabled (names-of t) (λ (ns : List Name). judged (length ns) w s c (counting root))
+-- how many nodes are reachable
+unfoldable pub reach-count : Arena → ℕ → ℕ
+unfolding reaches count-below
+reach-count a root = count-below (reaches a root) (length a)
 
 -- the enum's cases: the count; the number of a refusal
 abbrev pub counted-out : Counted → Out ℕ
@@ -44,7 +37,3 @@ counted-out (counted.Refused e) = refuse e
 -- the set r holds exactly the nodes reachable from the root, in any arena that memory holds
 pub record ReachIn (w s : List ℕ) (c : Counters) (root : ℕ) (r : List ℕ) : Type 0 where
   pub is : (table : ℕ) (a : Arena) → Holds table w s c a → (u : ℕ) → u < 4096 → has r u ≡ reaches a root u
-
--- the answer in memory that holds some arena
-pub record CountsIn (w s : List ℕ) (c : Counters) (root : ℕ) (r : Counted) : Type 0 where
-  pub is : (table : ℕ) (a : Arena) → Holds table w s c a → counted-out r ≡ counting root a

@@ -8,7 +8,8 @@ use types::Counters;
 use types::arc_ty::wide;
 ghost use mathlib.Core.Path.{_≡_};
 ghost use Rattle.arena.specs.Stored.{Lent, InRange};
-ghost use Rattle.walks.specs.Reach.{ReachIn, CountsIn, count-reply, counted-out};
+ghost use Rattle.walks.specs.Asked.{ask-reply, Answers};
+ghost use Rattle.walks.specs.Reach.{reach-count, ReachIn, counted-out};
 
 // The reachable nodes, a bit for each: those with a place of either sign.
 pub fn reachable(words: &[u32], starts: &[u32], c: Counters, root: usize) -> [u64; 64]
@@ -30,7 +31,7 @@ pub enum Counted {
 // How many nodes are reachable from the root, in an arena that is known to be sound.
 fn count_in(words: &[u32], starts: &[u32], c: Counters, root: usize) -> Counted
     requires { ⌜ Lent (now words) (now starts) c ⌝ }
-    ensures { λ r. ⌜ CountsIn (now (words .entry)) (now (starts .entry)) c root r ⌝ }
+    ensures { λ r. ⌜ Answers reach-count (now (words .entry)) (now (starts .entry)) c root (counted-out r) ⌝ }
 {
     if root >= c.nodes {
         return Counted::Refused(6);
@@ -47,7 +48,7 @@ pub fn count_reachable(
     c: Counters,
     root: u32,
 ) -> Counted
-    ensures { λ r. ⌜ counted-out r ≡ count-reply (now (table .entry)) (now (words .entry)) (now (starts .entry)) c root ⌝ }
+    ensures { λ r. ⌜ counted-out r ≡ ask-reply reach-count (now (table .entry)) (now (words .entry)) (now (starts .entry)) c root ⌝ }
 {
     let lent = judge(table, words, starts, c);
     match lent {

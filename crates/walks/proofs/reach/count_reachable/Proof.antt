@@ -1,5 +1,5 @@
 -- 1 and 2 are the verdict's; what follows them is that of `count_in`.
-use Rattle.walks.proofs.Counting.{count-refused, count-done}
+use Rattle.walks.proofs.Asking.{ask-refused, ask-done}
 use Rattle.arena.proofs.Verdicts.{lent-known}
 use borrow.Author.Needs.{needs}
 use Rattle.walks.proofs.reach.count_reachable.Statement.{statement}
@@ -21,10 +21,10 @@ enum-known-lent-2 : tie.Need-enum-known-lent-2
 enum-known-lent-2 c = search needs
 
 returns : tie.Need-returns
-returns c = search count-done
+returns c = search ask-done
 
 returns-2 : tie.Need-returns-2
-returns-2 c = search count-refused
+returns-2 c = search ask-refused
 
 pub count-reachable-spec : {M : Type 1} → statement M
 count-reachable-spec =

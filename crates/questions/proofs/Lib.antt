@@ -1,0 +1,3 @@
+pub mod HeadKinds
+pub mod MetVars
+pub mod Names
