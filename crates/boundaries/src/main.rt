@@ -36,6 +36,18 @@ fn tell(label: &[u8], r: Interned) {
     }
 }
 
+// One call, and what it answered.
+fn try_intern(
+    label: &[u8],
+    table: &[u8],
+    words: &mut [u32],
+    starts: &mut [u32],
+    c: Counters,
+    node: &[u32],
+) {
+    tell(label, intern(table, words, starts, c, node));
+}
+
 fn set(words: &mut [u32], at: usize, value: u32) {
     if at < words.len() {
         words[at] = value;
@@ -129,43 +141,34 @@ fn tables() {
     let node = [head(Head::TY_VAR, 1), 7];
     let mut most = [0u8; 768];
     put_names(&mut most, 256);
-    tell(
-        b"256 names",
-        intern(&most, &mut words, &mut starts, none, &node),
-    );
+    try_intern(b"256 names", &most, &mut words, &mut starts, none, &node);
     let mut over = [0u8; 771];
     put_names(&mut over, 257);
-    tell(
+    try_intern(
         b"257 names",
-        intern(
-            &over,
-            &mut words,
-            &mut starts,
-            Counters { nodes: 1, words: 2 },
-            &node,
-        ),
+        &over,
+        &mut words,
+        &mut starts,
+        Counters { nodes: 1, words: 2 },
+        &node,
     );
-    tell(
-        b"byte 127",
-        intern(&[1, 127], &mut words, &mut starts, none, &node),
-    );
-    tell(
+    try_intern(b"byte 127", &[1, 127], &mut words, &mut starts, none, &node);
+    try_intern(
         b"byte 126",
-        intern(
-            &[1, 126],
-            &mut words,
-            &mut starts,
-            Counters { nodes: 1, words: 2 },
-            &node,
-        ),
+        &[1, 126],
+        &mut words,
+        &mut starts,
+        Counters { nodes: 1, words: 2 },
+        &node,
     );
-    tell(
-        b"empty name",
-        intern(&[0], &mut words, &mut starts, none, &node),
-    );
-    tell(
+    try_intern(b"empty name", &[0], &mut words, &mut starts, none, &node);
+    try_intern(
         b"name twice",
-        intern(&[1, 97, 1, 97], &mut words, &mut starts, none, &node),
+        &[1, 97, 1, 97],
+        &mut words,
+        &mut starts,
+        none,
+        &node,
     );
 }
 
@@ -175,41 +178,31 @@ fn arenas() {
     let mut starts = [0u32; 4];
     let node = [head(Head::TY_VAR, 1), 7];
     put_vars(&mut words, &mut starts, 2);
-    tell(
+    try_intern(
         b"two variables",
-        intern(
-            &[],
-            &mut words,
-            &mut starts,
-            Counters { nodes: 2, words: 4 },
-            &node,
-        ),
+        &[],
+        &mut words,
+        &mut starts,
+        Counters { nodes: 2, words: 4 },
+        &node,
     );
-    tell(
+    try_intern(
         b"stale counters",
-        intern(
-            &[],
-            &mut words,
-            &mut starts,
-            Counters { nodes: 2, words: 4 },
-            &node,
-        ),
+        &[],
+        &mut words,
+        &mut starts,
+        Counters { nodes: 2, words: 4 },
+        &node,
     );
     let mut over = [0u32; 16385];
     let mut most = [0u32; 16384];
     let mut few = [0u32; 1];
     let none = Counters { nodes: 0, words: 0 };
-    tell(
-        b"16385 words",
-        intern(&[], &mut over, &mut few, none, &node),
-    );
-    tell(
-        b"16384 words",
-        intern(&[], &mut most, &mut few, none, &node),
-    );
+    try_intern(b"16385 words", &[], &mut over, &mut few, none, &node);
+    try_intern(b"16384 words", &[], &mut most, &mut few, none, &node);
 }
 
-// Numbers 3, 4 and 5, in an arena of two variables.
+// Numbers 3 and 4, in an arena of two variables.
 fn faults() {
     let mut words = [0u32; 80];
     let mut starts = [0u32; 8];
@@ -218,86 +211,55 @@ fn faults() {
     let table = [1, 97, 1, 98];
     let mut over = [0u32; 66];
     over[0] = head(Head::UNION, 65);
-    tell(
-        b"65 members",
-        intern(&table, &mut words, &mut starts, two, &over),
-    );
+    try_intern(b"65 members", &table, &mut words, &mut starts, two, &over);
     let mut most = [0u32; 65];
     most[0] = head(Head::UNION, 64);
-    tell(
-        b"64 members",
-        intern(&table, &mut words, &mut starts, two, &most),
-    );
+    try_intern(b"64 members", &table, &mut words, &mut starts, two, &most);
     let c = Counters {
         nodes: 3,
         words: 69,
     };
-    tell(b"no word", intern(&table, &mut words, &mut starts, c, &[]));
-    tell(
-        b"code 8",
-        intern(
-            &table,
-            &mut words,
-            &mut starts,
-            c,
-            &[head(Head::PRIMITIVE, 1), 8],
-        ),
-    );
-    tell(
-        b"child 3 of 3",
-        intern(
-            &table,
-            &mut words,
-            &mut starts,
-            c,
-            &[head(Head::LIST, 1), 3],
-        ),
-    );
-    tell(
-        b"child 2 of 3",
-        intern(
-            &table,
-            &mut words,
-            &mut starts,
-            c,
-            &[head(Head::LIST, 1), 2],
-        ),
-    );
+    try_intern(b"no word", &table, &mut words, &mut starts, c, &[]);
+    let code = [head(Head::PRIMITIVE, 1), 8];
+    try_intern(b"code 8", &table, &mut words, &mut starts, c, &code);
+    let own = [head(Head::LIST, 1), 3];
+    try_intern(b"child 3 of 3", &table, &mut words, &mut starts, c, &own);
+    let lower = [head(Head::LIST, 1), 2];
+    try_intern(b"child 2 of 3", &table, &mut words, &mut starts, c, &lower);
+    name_faults(&table, &mut words, &mut starts);
+}
+
+// Number 5, in the arena that `faults` leaves.
+fn name_faults(table: &[u8], words: &mut [u32], starts: &mut [u32]) {
     let a = field_word(false, 0, 0);
     let b = field_word(true, 1, 1);
     let d = Counters {
         nodes: 4,
         words: 71,
     };
-    tell(
+    try_intern(
         b"names fall",
-        intern(
-            &table,
-            &mut words,
-            &mut starts,
-            d,
-            &[head(Head::ATTR_SET, 2), b, a],
-        ),
+        table,
+        words,
+        starts,
+        d,
+        &[head(Head::ATTR_SET, 2), b, a],
     );
-    tell(
+    try_intern(
         b"names repeat",
-        intern(
-            &table,
-            &mut words,
-            &mut starts,
-            d,
-            &[head(Head::ATTR_SET, 2), b, b],
-        ),
+        table,
+        words,
+        starts,
+        d,
+        &[head(Head::ATTR_SET, 2), b, b],
     );
-    tell(
+    try_intern(
         b"names rise",
-        intern(
-            &table,
-            &mut words,
-            &mut starts,
-            d,
-            &[head(Head::ATTR_SET, 2), a, b],
-        ),
+        table,
+        words,
+        starts,
+        d,
+        &[head(Head::ATTR_SET, 2), a, b],
     );
 }
 
@@ -312,13 +274,21 @@ fn last_name() {
     put_names(&mut most, 256);
     let one = Counters { nodes: 1, words: 2 };
     let node = [head(Head::NAMED, 1), field_word(false, 255, 0)];
-    tell(
+    try_intern(
         b"name 255 of 255",
-        intern(&fewer, &mut words, &mut starts, one, &node),
+        &fewer,
+        &mut words,
+        &mut starts,
+        one,
+        &node,
     );
-    tell(
+    try_intern(
         b"name 255 of 256",
-        intern(&most, &mut words, &mut starts, one, &node),
+        &most,
+        &mut words,
+        &mut starts,
+        one,
+        &node,
     );
 }
 
@@ -332,21 +302,26 @@ fn most_nodes() {
         nodes: 4095,
         words: 8190,
     };
-    tell(
-        b"node 4096",
-        intern(&[], &mut words, &mut starts, c, &[top, 4095]),
-    );
+    try_intern(b"node 4096", &[], &mut words, &mut starts, c, &[top, 4095]);
     let full = Counters {
         nodes: 4096,
         words: 8192,
     };
-    tell(
+    try_intern(
         b"node 4097",
-        intern(&[], &mut words, &mut starts, full, &[top, 4096]),
+        &[],
+        &mut words,
+        &mut starts,
+        full,
+        &[top, 4096],
     );
-    tell(
+    try_intern(
         b"node 17 again",
-        intern(&[], &mut words, &mut starts, full, &[top, 17]),
+        &[],
+        &mut words,
+        &mut starts,
+        full,
+        &[top, 17],
     );
 }
 
@@ -361,21 +336,26 @@ fn most_words() {
         nodes: 253,
         words: 16319,
     };
-    tell(
-        b"word 16384",
-        intern(&[], &mut words, &mut starts, c, &last),
-    );
+    try_intern(b"word 16384", &[], &mut words, &mut starts, c, &last);
     let full = Counters {
         nodes: 254,
         words: 16384,
     };
-    tell(
+    try_intern(
         b"word 16385",
-        intern(&[], &mut words, &mut starts, full, &[head(Head::TOP, 0)]),
+        &[],
+        &mut words,
+        &mut starts,
+        full,
+        &[head(Head::TOP, 0)],
     );
-    tell(
+    try_intern(
         b"last union again",
-        intern(&[], &mut words, &mut starts, full, &last),
+        &[],
+        &mut words,
+        &mut starts,
+        full,
+        &last,
     );
 }
 

@@ -1,22 +1,20 @@
 -- The kind in the words of a node is the node's.
 use Prim.Native.Nat.{ℕ, _<_}
 use mathlib.Core.Path.{_≡_, refl, sym, ap, _∙_}
-use mathlib.Core.Bool.{Bool, true, false, _&&_}
+use mathlib.Core.Bool.{Bool, _&&_}
 use mathlib.Core.List.{List, [], _∷_}
 use native.Mathlib.Omega.{arith}
 use lib.ListN.{length, getD}
 use lib.Dec.{eqb}
 use Rattle.words.specs.Words.{head-kind}
-use Rattle.types.specs.Kind.{disc}
-use Rattle.types.specs.Node.{positive, negative, Tag, members, bound, var, neg, form, primitive, list, lambda, attrset, named, Node, tag, kind, head-of, encode, formed}
+use Rattle.types.specs.Node.{Node, head-of, encode}
 use Rattle.types.specs.Arena.{Arena, at}
-use Rattle.types.specs.Memory.{Holds}
 use Rattle.types.specs.declared.Counters.{Counters}
 use Rattle.types.proofs.Nodes.{encode-kind}
 use Rattle.types.proofs.Sound.{at-formed}
 use Rattle.bits.specs.Bits.{has}
 use Rattle.arena.specs.Stored.{InRange, NodeAt}
-use Rattle.questions.specs.Vars.{is-var, KindAt, MetVar}
+use Rattle.questions.specs.Vars.{KindAt, MetVar}
 
 pub no-head : (ws : List ℕ) → length ws ≡ 0 → 0 ≡ head-kind (getD ws 0 0)
 unfolding head-kind
@@ -35,21 +33,5 @@ module _ {w s : List ℕ} {c : Counters} {n : ℕ} (R : InRange w s c n) where
         e ∙ ap (λ (x : List ℕ). head-kind (getD x 0 0)) (N .is table a H) ∙ ap head-kind (head-encode (at a n)) ∙ encode-kind (at a n) (at-formed table a (H .good) n l);
   }
 
--- a variable's kind is 3, and no other
-is-three : (t : Tag) → eqb (disc (kind t)) 3 ≡ is-var t
-is-three (members positive) = refl
-is-three (members negative) = refl
-is-three (bound positive) = refl
-is-three (bound negative) = refl
-is-three (var v) = refl
-is-three neg = refl
-is-three (form (primitive k)) = refl
-is-three (form list) = refl
-is-three (form lambda) = refl
-is-three (form (attrset fs d o)) = refl
-is-three (form (named m)) = refl
-
 pub met-var : {w s met : List ℕ} {c : Counters} {n k : ℕ} {b : Bool} → b ≡ has met n → KindAt w s c n k → MetVar w s c met n (b && eqb k 3)
-met-var {met = met} {n = n} p K = record {
-  is = λ table a H. (λ i. p i && eqb (K .is table a H i) 3) ∙ ap (λ (x : Bool). has met n && x) (is-three (tag (at a n)));
-}
+met-var p K = record { is = λ table a H i. p i && eqb (K .is table a H i) 3 }

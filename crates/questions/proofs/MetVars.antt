@@ -8,7 +8,6 @@ use native.Mathlib.Decide.{ℕ-discrete}
 use lib.ListN.{length}
 use mir.Syntax.{w32, w64}
 use mir.Val.{Fits}
-use Rattle.types.specs.Node.{tag}
 use Rattle.types.specs.Arena.{Arena, at, sound}
 use Rattle.types.specs.Places.{Reachable}
 use Rattle.types.specs.Memory.{Holds}
@@ -47,7 +46,7 @@ some-same f g (suc n) h = λ i. h n (omega arith) i || some-same f g n (λ m l. 
 pub record Passed (w s : List ℕ) (c : Counters) (met : List ℕ) (n : ℕ) : Type 0 where
   pub lent : Lent w s c
   pub high : n ≤ c .nodes
-  pub none : (table : ℕ) (a : Arena) → Holds table w s c a → (m : ℕ) → m < n → (has met m && is-var (tag (at a m))) ≡ false
+  pub none : (table : ℕ) (a : Arena) → Holds table w s c a → (m : ℕ) → m < n → (has met m && is-var (at a m)) ≡ false
 
 module _ {w s : List ℕ} {c : Counters} where
   pub small : {n : ℕ} → InRange w s c n → n < 4096
@@ -69,23 +68,23 @@ module _ {w s : List ℕ} {c : Counters} where
     pub passed-more : n < c .nodes → {b : Bool} → MetVar w s c met n b → b ≡ false → Passed w s c met (n + 1)
     passed-more l {b} M e = record { lent = P .lent; high = omega (arith, l); none = none }
       where
-        none : (table : ℕ) (a : Arena) → Holds table w s c a → (m : ℕ) → m < n + 1 → (has met m && is-var (tag (at a m))) ≡ false
+        none : (table : ℕ) (a : Arena) → Holds table w s c a → (m : ℕ) → m < n + 1 → (has met m && is-var (at a m)) ≡ false
         none table a H m k = go (ℕ-discrete m n)
           where
-            go : Dec (m ≡ n) → (has met m && is-var (tag (at a m))) ≡ false
-            go (yes q) = subst (λ (x : ℕ). (has met x && is-var (tag (at a x))) ≡ false) (sym q) (sym (M .is table a H) ∙ e)
+            go : Dec (m ≡ n) → (has met m && is-var (at a m)) ≡ false
+            go (yes q) = subst (λ (x : ℕ). (has met x && is-var (at a x)) ≡ false) (sym q) (sym (M .is table a H) ∙ e)
             go (no q) = P .none table a H m (omega (arith, k, q))
 
     pub found-var : n < c .nodes → {b : Bool} → MetVar w s c met n b → b ≡ true → SomeVar w s c met true
     found-var l M e = record {
       is = λ table a H.
-          sym (some-one (λ (m : ℕ). has met m && is-var (tag (at a m))) (length a) n (subst (λ (k : ℕ). n < k) (H .nodes) l) (sym (M .is table a H) ∙ e));
+          sym (some-one (λ (m : ℕ). has met m && is-var (at a m)) (length a) n (subst (λ (k : ℕ). n < k) (H .nodes) l) (sym (M .is table a H) ∙ e));
     }
 
     pub no-var : c .nodes ≤ n → SomeVar w s c met false
     no-var l = record {
       is = λ table a H.
-          sym (some-none (λ (m : ℕ). has met m && is-var (tag (at a m))) (length a) (λ m k. P .none table a H m (omega (arith, l, k, H .nodes))));
+          sym (some-none (λ (m : ℕ). has met m && is-var (at a m)) (length a) (λ m k. P .none table a H m (omega (arith, l, k, H .nodes))));
     }
 
   -- the set is that of the reachable nodes
@@ -94,8 +93,8 @@ module _ {w s : List ℕ} {c : Counters} where
   vars-said {met} {root} R S = record {
     is = λ table a H.
         S .is table a H
-        ∙ some-same (λ (n : ℕ). has met n && is-var (tag (at a n))) (λ (n : ℕ). reaches a root n && is-var (tag (at a n))) (length a)
-        (λ m l. ap (λ (x : Bool). x && is-var (tag (at a m))) (R .is table a H m (below H l)));
+        ∙ some-same (λ (n : ℕ). has met n && is-var (at a n)) (λ (n : ℕ). reaches a root n && is-var (at a n)) (length a)
+        (λ m l. ap (λ (x : Bool). x && is-var (at a m)) (R .is table a H m (below H l)));
   }
     where
       below : {table m : ℕ} {a : Arena} → Holds table w s c a → m < length a → m < 4096
@@ -110,7 +109,7 @@ record Passes (f : ℕ → Bool) (n : ℕ) : Type 0 where
 pub record HasVar (a : Arena) (root : ℕ) : Type 0 where
   pub node : ℕ
   pub reached : Reachable a root node
-  pub var : is-var (tag (at a node)) ≡ true
+  pub var : is-var (at a node) ≡ true
 
 some-in : (f : ℕ → Bool) (n : ℕ) → some-below f n ≡ true → Passes f n
 unfolding some-below
@@ -125,8 +124,8 @@ module _ (table : ℕ) (a : Arena) (h : sound table a ≡ true) (root : ℕ) (l 
   pub vars-place : has-type-vars a root ≡ true → HasVar a root
   unfolding has-type-vars
   vars-place e =
-      let P = some-in (λ (n : ℕ). reaches a root n && is-var (tag (at a n))) (length a) e in
-      let q = and-true (reaches a root (P .number)) (is-var (tag (at a (P .number)))) (P .is) in
+      let P = some-in (λ (n : ℕ). reaches a root n && is-var (at a n)) (length a) e in
+      let q = and-true (reaches a root (P .number)) (is-var (at a (P .number))) (P .is) in
       record { node = P .number; reached = reaches-place table a h (P .number) root l (q .0); var = q .1 }
 
   pub place-vars : HasVar a root → has-type-vars a root ≡ true
@@ -134,4 +133,4 @@ module _ (table : ℕ) (a : Arena) (h : sound table a ≡ true) (root : ℕ) (l 
   place-vars P =
       let k = place-lower table a h (P .reached .place) l in
       let r = place-reaches table a h (P .node) (P .reached .place) l in
-      some-one (λ (n : ℕ). reaches a root n && is-var (tag (at a n))) (length a) (P .node) (omega (arith, k, l)) (both r (P .var))
+      some-one (λ (n : ℕ). reaches a root n && is-var (at a n)) (length a) (P .node) (omega (arith, k, l)) (both r (P .var))

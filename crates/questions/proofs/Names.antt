@@ -1,42 +1,30 @@
 -- The way down from a named type: each step keeps what the root stands for.
 use Prim.Native.Nat.{ℕ, zero, suc, _<_}
 use mathlib.Core.Path.{_≡_, refl, sym, ap, _∙_, subst}
-use mathlib.Core.Bool.{Bool, true, false}
+use mathlib.Core.Bool.{true, false}
 use mathlib.Core.List.{List}
 use native.Mathlib.Omega.{arith}
 use lib.ListN.{length, getD}
 use lib.Dec.{eqb}
 use borrow.Author.Tests.{eqb-true}
+use Rattle.types.specs.Kind as kinds
 use Rattle.types.specs.Kind.{disc, body-count}
 use Rattle.types.specs.Node.{positive, negative, Tag, members, bound, var, neg, form, primitive, list, lambda, attrset, named, Node, node, tag, kind, children, encode, formed}
 use Rattle.types.specs.Arena.{Arena, at, rec}
 use Rattle.types.specs.Fault.{children-in}
 use Rattle.types.specs.Memory.{Holds}
 use Rattle.types.specs.declared.Counters.{Counters}
+use Rattle.types.proofs.Tests.{not-true}
 use Rattle.types.proofs.Nodes.{length-child-words, formed-parts}
 use Rattle.types.proofs.Faults.{children-encode}
 use Rattle.types.proofs.Growth.{before, ext-tail, ext-rec, rec-at}
 use Rattle.types.proofs.Sound.{at-formed, child-lower}
 use Rattle.arena.specs.Stored.{Lent, InRange, NodeAt}
 use Rattle.walks.specs.Asked.{Says}
-use Rattle.questions.specs.Vars.{KindAt}
-use Rattle.questions.specs.Named.{is-named, unwrap-named, NamedAt, FirstChild}
+use Rattle.questions.specs.Vars.{of-kind, KindAt}
+use Rattle.questions.specs.Named.{unwrap-named, NamedAt, FirstChild}
 
--- a named type's kind is 9, and no other
-is-nine : (t : Tag) → eqb (disc (kind t)) 9 ≡ is-named t
-is-nine (members positive) = refl
-is-nine (members negative) = refl
-is-nine (bound positive) = refl
-is-nine (bound negative) = refl
-is-nine (var v) = refl
-is-nine neg = refl
-is-nine (form (primitive k)) = refl
-is-nine (form list) = refl
-is-nine (form lambda) = refl
-is-nine (form (attrset fs d o)) = refl
-is-nine (form (named m)) = refl
-
--- and it has one child
+-- a named type has one child
 one-child : (t : Tag) (cs : List ℕ) → formed (node t cs) ≡ true → 9 ≡ disc (kind t) → length cs ≡ 1
 unfolding body-count
 one-child (members positive) cs e k = absurd (omega arith)
@@ -79,7 +67,7 @@ module _ {w s : List ℕ} {c : Counters} {n : ℕ} (N : NamedAt w s c n) where
 
 -- ---- one step down
 module _ (table : ℕ) (a : Arena) (n : ℕ) (l : n < length a) where
-  unwrap-at : unwrap-named a n ≡ elim (is-named (tag (at a n))) as (λ _. ℕ) [ true ↦ unwrap-named (before a n l .older) (getD (children (at a n)) 0 0) | false ↦ length (before a n l .older) ]
+  unwrap-at : unwrap-named a n ≡ elim (of-kind kinds.named (at a n)) as (λ _. ℕ) [ true ↦ unwrap-named (before a n l .older) (getD (children (at a n)) 0 0) | false ↦ length (before a n l .older) ]
   unfolding unwrap-named
   unwrap-at = rec-at _ _ a n l
 
@@ -87,10 +75,10 @@ module _ (table : ℕ) (a : Arena) (n : ℕ) (l : n < length a) where
   unfolding unwrap-named
   unwrap-older k h = let B = before a n l in ext-rec _ _ (B .older) a (ext-tail (B .ext)) k (omega (arith, h, B .count))
 
-  unwrap-self : is-named (tag (at a n)) ≡ false → n ≡ unwrap-named a n
+  unwrap-self : of-kind kinds.named (at a n) ≡ false → n ≡ unwrap-named a n
   unwrap-self e = sym (unwrap-at ∙ rw e (before a n l .count))
 
-  unwrap-down : is-named (tag (at a n)) ≡ true → getD (children (at a n)) 0 0 < n → unwrap-named a (getD (children (at a n)) 0 0) ≡ unwrap-named a n
+  unwrap-down : of-kind kinds.named (at a n) ≡ true → getD (children (at a n)) 0 0 < n → unwrap-named a (getD (children (at a n)) 0 0) ≡ unwrap-named a n
   unwrap-down e h = unwrap-older _ h ∙ sym (unwrap-at ∙ rw e)
 
 -- ---- the loop
@@ -111,8 +99,8 @@ module _ {w s : List ℕ} {c : Counters} {root : ℕ} where
     within-down : {table : ℕ} {a : Arena} → Holds table w s c a → n < length a
     within-down H = subst (λ (x : ℕ). n < x) (H .nodes) (D .inside)
 
-    nine : k ≡ 9 → {table : ℕ} {a : Arena} → Holds table w s c a → is-named (tag (at a n)) ≡ true
-    nine e {table} {a} H = sym (is-nine (tag (at a n))) ∙ ap (λ (x : ℕ). eqb x 9) (sym (D .kind .is table a H) ∙ e)
+    nine : k ≡ 9 → {table : ℕ} {a : Arena} → Holds table w s c a → of-kind kinds.named (at a n) ≡ true
+    nine e {table} {a} H = ap (λ (x : ℕ). eqb x 9) (sym (D .kind .is table a H) ∙ e)
 
     lower : k ≡ 9 → {table : ℕ} {a : Arena} → Holds table w s c a → getD (children (at a n)) 0 0 < n
     lower e {table} {a} H =
@@ -134,11 +122,8 @@ module _ {w s : List ℕ} {c : Counters} {root : ℕ} where
     }
 
     pub down-done : (k ≡ 9 → ⊥) → Says unwrap-named w s c root n
-    down-done f = record { is = λ table a H. unwrap-self table a n (within-down H) (other H) ∙ D .same table a H }
-      where
-        go : (t : Tag) → (b : Bool) → is-named t ≡ b → k ≡ disc (kind t) → is-named t ≡ false
-        go t false q e = q
-        go t true q e = absurd (f (e ∙ eqb-true (disc (kind t)) 9 (is-nine t ∙ q)))
-
-        other : {table : ℕ} {a : Arena} → Holds table w s c a → is-named (tag (at a n)) ≡ false
-        other {table} {a} H = go (tag (at a n)) (is-named (tag (at a n))) refl (D .kind .is table a H)
+    down-done f = record {
+      is = λ table a H.
+          let k = D .kind .is table a H in
+          unwrap-self table a n (within-down H) (not-true _ (λ q. f (k ∙ eqb-true (disc (kind (tag (at a n)))) 9 q))) ∙ D .same table a H;
+    }

@@ -1,35 +1,24 @@
 -- What a name stands for.
 use Prim.Native.Nat.{ℕ, _<_}
 use mathlib.Core.Path.{_≡_}
-use mathlib.Core.Bool.{Bool, true, false}
+use mathlib.Core.Bool.{true, false}
 use mathlib.Core.List.{List}
 use lib.ListN.{length, getD}
 use Rattle.types.specs.Out.{Out, ok, refuse}
-use Rattle.types.specs.Node.{Tag, members, bound, var, neg, form, primitive, list, lambda, attrset, named, Node, tag, children}
+use Rattle.types.specs.Kind as kinds
+use Rattle.types.specs.Node.{Node, children}
 use Rattle.types.specs.Arena.{Arena, at, rec}
 use Rattle.types.specs.Memory.{Holds}
 use Rattle.types.specs.declared.Counters.{Counters}
 use Rattle.arena.specs.Stored.{Lent}
-use Rattle.questions.specs.Vars.{KindAt}
+use Rattle.questions.specs.Vars.{of-kind, KindAt}
 use Rattle.questions.specs.declared.named.Unwrapped.{Unwrapped}
 use Rattle.questions.specs.declared.named.Unwrapped.the-variants as unwrapped
-
--- a named type's tag
-abbrev pub is-named : Tag → Bool
-is-named (members k) = false
-is-named (bound k) = false
-is-named (var v) = false
-is-named neg = false
-is-named (form (primitive c)) = false
-is-named (form list) = false
-is-named (form lambda) = false
-is-named (form (attrset fs d o)) = false
-is-named (form (named m)) = true
 
 -- a named type stands for what its one child stands for, and any other node for itself (01, "arena")
 unfoldable pub unwrap-named : Arena → ℕ → ℕ
 unfolding rec
-unwrap-named = rec (λ (s : Arena) (x : Node) (f : ℕ → ℕ). elim (is-named (tag x)) [ true ↦ f (getD (children x) 0 0) | false ↦ length s ]) 0
+unwrap-named = rec (λ (s : Arena) (x : Node) (f : ℕ → ℕ). elim (of-kind kinds.named x) [ true ↦ f (getD (children x) 0 0) | false ↦ length s ]) 0
 
 -- the enum's cases: the number of a node; that of a refusal
 abbrev pub unwrapped-out : Unwrapped → Out ℕ

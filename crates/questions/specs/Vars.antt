@@ -4,9 +4,11 @@ use mathlib.Core.Path.{_≡_}
 use mathlib.Core.Bool.{Bool, true, false, _&&_, _||_}
 use mathlib.Core.List.{List}
 use lib.ListN.{length}
+use lib.Dec.{eqb}
 use Rattle.types.specs.Out.{Out, ok, refuse}
-use Rattle.types.specs.Kind.{disc}
-use Rattle.types.specs.Node.{Tag, members, bound, var, neg, form, tag, kind}
+use Rattle.types.specs.Kind as kinds
+use Rattle.types.specs.Kind.{Kind, disc}
+use Rattle.types.specs.Node.{Node, tag, kind}
 use Rattle.types.specs.Arena.{Arena, at}
 use Rattle.types.specs.Memory.{Holds}
 use Rattle.types.specs.declared.Counters.{Counters}
@@ -15,13 +17,13 @@ use Rattle.walks.specs.Reach.{reaches}
 use Rattle.questions.specs.declared.vars.Asked.{Asked}
 use Rattle.questions.specs.declared.vars.Asked.the-variants as asked
 
--- a variable's tag
-abbrev pub is-var : Tag → Bool
-is-var (members k) = false
-is-var (bound k) = false
-is-var (var v) = true
-is-var neg = false
-is-var (form f) = false
+-- has the node this kind?
+abbrev pub of-kind : Kind → Node → Bool
+of-kind k x = eqb (disc (kind (tag x))) (disc k)
+
+-- is it a variable?
+abbrev pub is-var : Node → Bool
+is-var = of-kind kinds.ty-var
 
 -- does a number below n pass?
 unfoldable pub some-below : (ℕ → Bool) → ℕ → Bool
@@ -31,7 +33,7 @@ some-below f (suc n) = f n || some-below f n
 -- some reachable node is a variable (01, "arena"; the theorem `vars-place` says it with places)
 unfoldable pub has-type-vars : Arena → ℕ → Bool
 unfolding reaches some-below at
-has-type-vars a root = some-below (λ (n : ℕ). reaches a root n && is-var (tag (at a n))) (length a)
+has-type-vars a root = some-below (λ (n : ℕ). reaches a root n && is-var (at a n)) (length a)
 
 -- the enum's cases: whether it is so; the number of a refusal
 abbrev pub asked-out : Asked → Out Bool
@@ -45,8 +47,8 @@ pub record KindAt (w s : List ℕ) (c : Counters) (n r : ℕ) : Type 0 where
 
 -- is node n in the set, and a variable?
 pub record MetVar (w s : List ℕ) (c : Counters) (met : List ℕ) (n : ℕ) (r : Bool) : Type 0 where
-  pub is : (table : ℕ) (a : Arena) → Holds table w s c a → r ≡ (has met n && is-var (tag (at a n)))
+  pub is : (table : ℕ) (a : Arena) → Holds table w s c a → r ≡ (has met n && is-var (at a n))
 
 -- is any?
 pub record SomeVar (w s : List ℕ) (c : Counters) (met : List ℕ) (r : Bool) : Type 0 where
-  pub is : (table : ℕ) (a : Arena) → Holds table w s c a → r ≡ some-below (λ (n : ℕ). has met n && is-var (tag (at a n))) (length a)
+  pub is : (table : ℕ) (a : Arena) → Holds table w s c a → r ≡ some-below (λ (n : ℕ). has met n && is-var (at a n)) (length a)
