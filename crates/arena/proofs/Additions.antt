@@ -1,8 +1,8 @@
 -- One more node in memory: what `intern_node` answers and leaves on each of its ways is what the definition says.
 use Prim.Native.Nat.{ℕ, suc, _+_, _-_, _<_, _≤_}
 use mathlib.Core.Path.{_≡_, refl, sym, ap, _∙_}
-use mathlib.Core.Bool.{Bool, true, false}
-use mathlib.Core.List.{List, [], _∷_}
+use mathlib.Core.Bool.{true, false}
+use mathlib.Core.List.{List, _∷_}
 use mathlib.Core.Option.{none, some}
 use native.Mathlib.Omega.{arith}
 use mir.Syntax.{w32}
@@ -24,7 +24,7 @@ use Rattle.types.proofs.Sound.{find-at}
 use Rattle.types.proofs.Addresses.{word-room, start-room, words-more, starts-more, flat-more}
 use Rattle.arena.specs.Stored.{Searched, FoundIn, found-at}
 use Rattle.arena.specs.Added.{Room, Pasted, Fresh, Interns}
-use Rattle.arena.specs.Intern.{has-room, intern, left}
+use Rattle.arena.specs.Intern.{has-room, intern}
 use Rattle.arena.specs.declared.stored.Found.{Found}
 use Rattle.arena.specs.declared.stored.Found.the-variants as found
 use Rattle.arena.specs.declared.added.Interned.the-variants as interned

@@ -1,28 +1,27 @@
 -- The check of lent memory: node after node is read, and no arena but one that grew from those read can be what it holds.
-use Prim.Native.Nat.{ℕ, zero, suc, _+_, _-_, _*_, _^_, _<_, _≤_}
+use Prim.Native.Nat.{ℕ, zero, suc, _+_, _-_, _*_, _<_, _≤_}
 use mathlib.Core.Path.{_≡_, refl, sym, ap, _∙_, subst}
 use mathlib.Core.Bool.{Bool, true, false, not}
 use mathlib.Core.List.{List, [], _∷_, _++_, append-nil}
-use mathlib.Core.Option.{Option, none, some}
 use native.Mathlib.Omega.{arith}
 use native.Mathlib.Numerals.{add-one}
 use mir.Syntax.{w64}
 use mir.Val.{Fits}
 use lib.ListN.{length, getD, take, drop, replicate, length-append, length-drop, take-append-drop}
 use lib.Seq.{getD-drop, take-at, drop-at, take-all, take-add, take-suc, length-take-le}
-use lib.Dec.{eqb, ltb}
+use lib.Dec.{eqb}
 use borrow.Author.Tests.{eqb-true, eqb-false, not-true, not-false}
 use Rattle.words.specs.Words.{head-count}
 use Rattle.types.specs.Out.{number}
 use Rattle.types.specs.Node.{Node, encode, guess, formed, below, well, decode, IsNode}
 use Rattle.types.specs.Arena as mem
-use Rattle.types.specs.Arena.{Arena, find, absent, sound, Ext, here, more}
+use Rattle.types.specs.Arena.{Arena, absent, sound, Ext, here, more}
 use Rattle.types.specs.Memory.{flat, heads, padded, Holds, span, arena-of}
 use Rattle.types.specs.declared.Counters.{Counters}
 use Rattle.types.proofs.Tests.{true-false}
 use Rattle.types.proofs.Lists.{below-cons}
 use Rattle.types.proofs.Nodes.{guess-encode, length-encode}
-use Rattle.types.proofs.Decodes.{well-parts, decode-ok, Faultless, faultless}
+use Rattle.types.proofs.Decodes.{well-parts, decode-ok, faultless}
 use Rattle.types.proofs.Growth.{ext-tail, ext-length}
 use Rattle.types.proofs.Sound.{sound-well, sound-fresh, sound-more, sound-ext}
 use Rattle.types.proofs.Memories.{span-encode, arena-of-holds, unsound}

@@ -1,19 +1,17 @@
 -- What `compare` answers on each of its ways is what `compare-reply` says.
 use Prim.Native.Nat.{ℕ, _<_, _≤_}
-use mathlib.Core.Path.{_≡_, sym, ap, _∙_, subst}
+use mathlib.Core.Path.{_≡_, sym, ap, _∙_}
 use mathlib.Core.List.{List}
 use native.Mathlib.Omega.{arith}
-use lib.ListN.{length}
 use Rattle.types.specs.Out.{Out, ok}
 use Rattle.types.specs.Arena.{Arena, at}
-use Rattle.types.specs.Memory.{Holds}
 use Rattle.types.specs.Reply.{rooted}
 use Rattle.types.specs.declared.Counters.{Counters}
 use Rattle.types.specs.declared.Ordering.{Ordering}
 use Rattle.types.proofs.Replies.{rooted-no, rooted-yes}
 use Rattle.names.specs.Table.{Name}
 use Rattle.node_order.specs.NodeOrder.{node-order}
-use Rattle.arena.specs.Stored.{Lent, Ordered}
+use Rattle.arena.specs.Stored.{Ordered}
 use Rattle.arena.specs.Sound.{lent-reply, judged-out}
 use Rattle.arena.specs.Compare.{comparing, compare-reply, compared-out, ComparesIn}
 use Rattle.arena.specs.declared.Compared.{Compared}

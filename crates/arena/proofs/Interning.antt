@@ -2,11 +2,11 @@
 use Prim.Native.Nat.{ℕ, _<_, _≤_}
 use mathlib.Core.Path.{_≡_, refl, sym, ap, _∙_, subst}
 use mathlib.Core.Bool.{Bool, true, false}
-use mathlib.Core.List.{List, [], _∷_}
+use mathlib.Core.List.{List, _∷_}
 use mathlib.Core.Option.{Option, none, some}
 use native.Mathlib.Omega.{arith}
 use lib.ListN.{length}
-use Rattle.types.specs.Out.{Out, ok, refuse}
+use Rattle.types.specs.Out.{Out, ok}
 use Rattle.types.specs.Node.{Node, well}
 use Rattle.types.specs.Arena.{Arena, at, find, absent, sound, Ext, here, more}
 use Rattle.types.specs.Memory.{flat, heads, words-of, starts-of, counters-of, Holds}

@@ -7,12 +7,12 @@ use mathlib.Core.Option.{none, some}
 use native.Mathlib.Omega.{arith}
 use lib.ListN.{length}
 use Rattle.types.specs.Same.{same}
-use Rattle.types.specs.Node.{Node, node-dec, encode, formed}
+use Rattle.types.specs.Node.{Node, encode, formed}
 use Rattle.types.specs.Arena.{Arena, at, find, Ext, here}
 use Rattle.types.specs.Memory.{Holds}
 use Rattle.types.specs.declared.Counters.{Counters}
 use Rattle.types.proofs.Growth.{ext-tail, ext-at, at-new}
-use Rattle.arena.specs.Stored.{Lent, InRange, Sought, IsThere, Searched, FoundIn}
+use Rattle.arena.specs.Stored.{Sought, IsThere, Searched, FoundIn}
 use Rattle.arena.specs.declared.stored.Found.the-variants as found
 
 -- the nodes not yet looked at: x is among them or nowhere

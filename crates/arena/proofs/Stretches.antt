@@ -2,7 +2,7 @@
 use Prim.Native.Nat.{ℕ, suc, _+_, _-_, _*_, _<_, _≤_}
 use mathlib.Core.Path.{_≡_, refl, sym, ap, _∙_}
 use mathlib.Core.Bool.{Bool, true, false}
-use mathlib.Core.List.{List, _++_}
+use mathlib.Core.List.{List}
 use native.Mathlib.Omega.{arith}
 use mir.Syntax.{w64}
 use mir.Val.{Fits}
@@ -22,7 +22,7 @@ use Rattle.types.proofs.Addresses.{start-room, after-node, from-start, node-roo
 use Rattle.types.specs.declared.Ordering.{Ordering}
 use Rattle.node_order.specs.WordsOrder.{words-order}
 use Rattle.node_order.proofs.Agreement.{words-order-encode}
-use Rattle.arena.specs.Stored.{Lent, InRange, NodeAt, Sought, IsThere, Ordered}
+use Rattle.arena.specs.Stored.{Lent, InRange, NodeAt, IsThere, Ordered}
 
 module _ {w s : List ℕ} {c : Counters} {n : ℕ} where
   node-formed : {table : ℕ} {a : Arena} → Holds table w s c a → n < c .nodes → formed (at a n) ≡ true

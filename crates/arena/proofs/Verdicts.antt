@@ -56,13 +56,13 @@ module _ (t w s : List ℕ) (c : Counters) where
       go (some ns) p = memory ns p (arena-of (length ns) w s c) refl
 
   module _ {A : Type 0} (f : List Name → Arena → Out A) where
-    pub asked-1 : names-of t ≡ none → asked t w s c f ≡ refuse 1
+    asked-1 : names-of t ≡ none → asked t w s c f ≡ refuse 1
     asked-1 p = tabled-no (λ (ns : List Name). judged (length ns) w s c (f ns)) (names-of t) p
 
-    pub asked-2 : (ns : List Name) → names-of t ≡ some ns → ((a : Arena) → Holds (length ns) w s c a → ⊥) → asked t w s c f ≡ refuse 2
+    asked-2 : (ns : List Name) → names-of t ≡ some ns → ((a : Arena) → Holds (length ns) w s c a → ⊥) → asked t w s c f ≡ refuse 2
     asked-2 ns p h = tabled-yes (λ (ms : List Name). judged (length ms) w s c (f ms)) (names-of t) ns p ∙ judged-no (length ns) w s c (f ns) h
 
-    pub asked-both : (ns : List Name) → names-of t ≡ some ns → (a : Arena) → Holds (length ns) w s c a → asked t w s c f ≡ f ns a
+    asked-both : (ns : List Name) → names-of t ≡ some ns → (a : Arena) → Holds (length ns) w s c a → asked t w s c f ≡ f ns a
     asked-both ns p a H = tabled-yes (λ (ms : List Name). judged (length ms) w s c (f ms)) (names-of t) ns p ∙ judged-yes (length ns) w s c (f ns) a H
 
   abbrev count : List Name → Arena → Out ℕ

@@ -1,6 +1,6 @@
 -- The kind in the words of a node is the node's.
 use Prim.Native.Nat.{ℕ, _<_}
-use mathlib.Core.Path.{_≡_, refl, sym, ap, _∙_}
+use mathlib.Core.Path.{_≡_, refl, ap, _∙_}
 use mathlib.Core.Bool.{Bool, _&&_}
 use mathlib.Core.List.{List, [], _∷_}
 use native.Mathlib.Omega.{arith}
@@ -8,7 +8,7 @@ use lib.ListN.{length, getD}
 use lib.Dec.{eqb}
 use Rattle.words.specs.Words.{head-kind}
 use Rattle.types.specs.Node.{Node, head-of, encode}
-use Rattle.types.specs.Arena.{Arena, at}
+use Rattle.types.specs.Arena.{at}
 use Rattle.types.specs.declared.Counters.{Counters}
 use Rattle.types.proofs.Nodes.{encode-kind}
 use Rattle.types.proofs.Sound.{at-formed}

@@ -1,5 +1,5 @@
 -- The way down from a named type: each step keeps what the root stands for.
-use Prim.Native.Nat.{ℕ, zero, suc, _<_}
+use Prim.Native.Nat.{ℕ, _<_}
 use mathlib.Core.Path.{_≡_, refl, sym, ap, _∙_, subst}
 use mathlib.Core.Bool.{true, false}
 use mathlib.Core.List.{List}
@@ -9,8 +9,8 @@ use lib.Dec.{eqb}
 use borrow.Author.Tests.{eqb-true}
 use Rattle.types.specs.Kind as kinds
 use Rattle.types.specs.Kind.{disc, body-count}
-use Rattle.types.specs.Node.{positive, negative, Tag, members, bound, var, neg, form, primitive, list, lambda, attrset, named, Node, node, tag, kind, children, encode, formed}
-use Rattle.types.specs.Arena.{Arena, at, rec}
+use Rattle.types.specs.Node.{positive, negative, Tag, members, bound, var, neg, form, primitive, list, lambda, attrset, named, Node, node, tag, kind, children, formed}
+use Rattle.types.specs.Arena.{Arena, at}
 use Rattle.types.specs.Fault.{children-in}
 use Rattle.types.specs.Memory.{Holds}
 use Rattle.types.specs.declared.Counters.{Counters}

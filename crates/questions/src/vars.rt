@@ -87,7 +87,7 @@ pub fn has_type_vars(table: &[u8], words: &[u32], starts: &[u32], c: Counters, r
     }
 }
 
-// Whether it has one that could get a lower number: it does wherever it has one at all, and a root that is itself a variable has.
+// Whether `normalize_replacing_unknown` has something to do: wherever the type has a variable at all, as the Rust has it.
 pub fn needs_var_normalization(
     table: &[u8],
     words: &[u32],

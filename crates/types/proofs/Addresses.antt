@@ -3,7 +3,7 @@ use Prim.Native.Nat.{ℕ, _+_, _-_, _<_, _≤_}
 use mathlib.Core.Path.{_≡_, refl, sym, ap, _∙_}
 use mathlib.Core.List.{List, [], _∷_, _++_, append-assoc, append-nil}
 use native.Mathlib.Omega.{arith}
-use lib.ListN.{length, getD, drop, set, replicate, length-append, length-replicate}
+use lib.ListN.{length, getD, drop, set, replicate, length-append}
 use lib.Seq.{paste, drop-at, getD-at}
 use Rattle.types.specs.Node.{Node, encode}
 use Rattle.types.specs.Arena.{Arena, at, Ext, here, more}

@@ -1,13 +1,12 @@
 -- `decode` gives the node exactly where the words are its own and it may stand there, and else the first of 3, 4 and 5 that is true.
 use Prim.Native.Nat.{ℕ}
 use mathlib.Core.Path.{_≡_, refl, sym, ap, _∙_}
-use mathlib.Core.Bool.{Bool, true, false, _&&_}
+use mathlib.Core.Bool.{Bool, true, false}
 use mathlib.Core.List.{List}
 use native.Mathlib.Omega.{arith}
-use Rattle.types.specs.Same.{same-numbers}
 use Rattle.types.specs.Out.{Out, ok, refuse, number}
 use Rattle.types.specs.Node.{Node, tag, names, encode, formed, linked, rising, well, guess, is-words, decode, IsNode}
-use Rattle.types.proofs.Tests.{true-false, and-true, both, not-true, numbers-true, numbers-if}
+use Rattle.types.proofs.Tests.{and-true, both, not-true, numbers-true, numbers-if}
 use Rattle.types.proofs.Nodes.{guess-encode}
 
 -- ---- the three parts of `well`

@@ -1,8 +1,8 @@
 -- The sentences of 01 on a node's words, read off field by field, are what `decode` asks of them.
-use Prim.Native.Nat.{ℕ, zero, suc, _+_, _-_, _^_, _<_, _≤_}
+use Prim.Native.Nat.{ℕ, zero, suc, _+_, _-_, _^_, _≤_}
 use mathlib.Core.Path.{_≡_, refl, sym, ap, _∙_}
 use mathlib.Core.Bool.{Bool, true, false, not, _&&_}
-use mathlib.Core.List.{List, [], _∷_, _++_, map}
+use mathlib.Core.List.{List, [], _∷_, map}
 use mathlib.Core.Option.{Option, none, some}
 use native.Mathlib.Omega.{arith}
 use lib.ListN.{length, getD, take, drop, length-map}
@@ -11,10 +11,10 @@ use lib.Dec.{eqb, leb}
 use borrow.Author.Tests.{eqb-true, eq-eqb, leb-true, lt-ltb, not-true as negated}
 use Rattle.words.specs.Words.{bit, head-word, head-kind, head-open, head-dynamic, head-zero, head-count, field-word, field-optional, field-name, field-zero, child, child-zero, FieldFits}
 use Rattle.types.specs.Kind as kinds
-use Rattle.types.specs.Kind.{Kind, disc, kind-of, body-count, Body, body-of}
+use Rattle.types.specs.Kind.{Kind, disc, kind-of, body-count, body-of}
 use Rattle.types.specs.Out.{number}
-use Rattle.types.specs.Node.{positive, negative, Field, field, primitive, list, lambda, attrset, named, Tag, members, bound, var, neg, form, Node, node, tag, children, kind, Data, nothing, data-of, field-names, names, child-words, body, head-of, encode, below, matched, formed, linked, rising, field-of, tag-of, children-of, guess-kind, guess, is-words, decode}
-use Rattle.types.specs.Fault.{flags-fit, kind-fits, head-fits, field-part, child-part, own-fits, each-zero, body-fits, kind-body-fits, fits, kind-children, kind-names, children-in, names-in, first, fault}
+use Rattle.types.specs.Node.{positive, negative, Field, field, primitive, list, lambda, attrset, named, Tag, members, bound, var, neg, form, Node, node, tag, children, kind, data-of, field-names, names, child-words, body, head-of, encode, below, matched, formed, linked, rising, field-of, tag-of, children-of, guess-kind, guess, is-words, decode}
+use Rattle.types.specs.Fault.{flags-fit, kind-fits, head-fits, field-part, each-zero, body-fits, kind-body-fits, fits, kind-children, kind-names, children-in, names-in, first, fault}
 use Rattle.types.proofs.Tests.{true-false, and-true, both, same-truth}
 use Rattle.types.proofs.Lists.{below-cons, below-map}
 use Rattle.types.proofs.KindNumbers.{kind-of-disc, disc-kind-of}

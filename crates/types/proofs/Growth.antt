@@ -2,13 +2,13 @@
 use Prim.Native.Nat.{ℕ, _<_, _≤_}
 use mathlib.Core.Path.{_≡_, refl, sym, ap, _∙_}
 use mathlib.Core.Bool.{Bool, true, false}
-use mathlib.Core.List.{List, [], _∷_, map}
+use mathlib.Core.List.{[], _∷_}
 use native.Mathlib.Omega.{arith}
 use lib.ListN.{length}
 use lib.Dec.{eqb}
 use borrow.Author.Tests.{eq-eqb, ne-eqb, eqb-true, eqb-false}
-use Rattle.types.specs.Node.{Tag, bound, positive, Node, tag, children}
-use Rattle.types.specs.Arena.{Arena, at, rec, fold, Ext, here, more}
+use Rattle.types.specs.Node.{Node}
+use Rattle.types.specs.Arena.{Arena, at, rec, Ext, here, more}
 
 pub ext-tail : {x : Node} {b a : Arena} → Ext (x ∷ b) a → Ext b a
 ext-tail {x} here = more x here

@@ -2,7 +2,7 @@
 use Prim.Native.Nat.{ℕ, zero, suc, _+_, _≤_}
 use mathlib.Core.Path.{_≡_, refl, ap}
 use mathlib.Core.List.{List, [], _∷_}
-use mathlib.Core.Option.{Option, none, some}
+use mathlib.Core.Option.{some}
 use native.Mathlib.Omega.{arith}
 use lib.ListN.{getElem?}
 use Rattle.types.specs.Kind.{Kind, kinds, bottom, top, primitive, ty-var, list, lambda, attr-set, union, intersection, named, neg, disc, kind-of}

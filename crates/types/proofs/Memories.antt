@@ -1,5 +1,5 @@
 -- Lent memory holds at most one arena, and `arena-of` gives exactly that one.
-use Prim.Native.Nat.{ℕ, suc, _+_, _-_, _<_, _≤_}
+use Prim.Native.Nat.{ℕ, suc, _+_, _-_}
 use mathlib.Core.Path.{_≡_, refl, sym, ap, _∙_}
 use mathlib.Core.Bool.{Bool, true, false}
 use mathlib.Core.List.{List, [], _∷_, _++_, append-assoc}
@@ -9,7 +9,6 @@ use lib.ListN.{length, take, drop}
 use lib.Seq.{take-at, drop-at}
 use lib.Dec.{eqb, leb}
 use borrow.Author.Tests.{eq-eqb, eqb-true, le-leb, leb-true}
-use Rattle.words.specs.Words.{head-count}
 use Rattle.types.specs.Same.{same-numbers}
 use Rattle.types.specs.Node.{Node, encode, guess, formed}
 use Rattle.types.specs.Arena.{Arena, sound}

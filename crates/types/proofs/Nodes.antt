@@ -1,17 +1,17 @@
 -- A formed node and its words say the same: each field of the words reads back, and so does the node.
-use Prim.Native.Nat.{ℕ, suc, _+_, _-_, _^_, _<_, _≤_}
+use Prim.Native.Nat.{ℕ, suc, _+_, _-_, _^_, _≤_}
 use mathlib.Core.Path.{_≡_, refl, sym, ap, _∙_}
-use mathlib.Core.Bool.{Bool, true, false, _&&_}
-use mathlib.Core.List.{List, [], _∷_, _++_, map}
-use mathlib.Core.Option.{Option, some}
+use mathlib.Core.Bool.{Bool, true, false}
+use mathlib.Core.List.{List, [], _∷_, map}
+use mathlib.Core.Option.{Option}
 use native.Mathlib.Omega.{arith}
 use lib.ListN.{length, take}
 use lib.Dec.{leb}
 use borrow.Author.Tests.{eqb-true, leb-true}
-use Rattle.words.specs.Words.{bit, head-word, head-kind, head-open, head-dynamic, head-zero, head-count, HeadFits, FieldFits, field-word, child}
+use Rattle.words.specs.Words.{bit, head-kind, head-open, head-dynamic, head-zero, head-count, HeadFits, FieldFits, child}
 use Rattle.types.specs.Kind as kinds
 use Rattle.types.specs.Kind.{Kind, disc, kind-of, body-count, body-of}
-use Rattle.types.specs.Node.{positive, negative, Field, field, primitive, list, lambda, attrset, named, Tag, members, bound, var, neg, form, Node, node, tag, children, kind, data-of, field-names, names, child-words, body, head-of, encode, below, matched, formed, field-of, tag-of, children-of, guess-kind, guess}
+use Rattle.types.specs.Node.{positive, negative, Field, field, primitive, list, lambda, attrset, named, Tag, members, bound, var, neg, form, Node, node, tag, kind, data-of, field-names, names, child-words, body, head-of, encode, below, matched, formed, field-of, tag-of, children-of, guess-kind, guess}
 use Rattle.types.proofs.Tests.{and-true, both}
 use Rattle.types.proofs.Lists.{below-cons}
 use Rattle.types.proofs.KindNumbers.{kind-of-disc, disc-small}

@@ -1,14 +1,13 @@
 -- The shared order of refusals, case by case.
 use Prim.Native.Nat.{ℕ, _<_, _≤_}
-use mathlib.Core.Path.{_≡_, refl}
-use mathlib.Core.Bool.{true, false}
+use mathlib.Core.Path.{_≡_}
 use mathlib.Core.List.{List}
 use mathlib.Core.Option.{Option, none, some}
 use lib.ListN.{length}
 use borrow.Author.Tests.{lt-ltb, le-ltb}
 use Rattle.types.specs.Out.{Out, refuse, required}
 use Rattle.types.specs.Arena.{Arena}
-use Rattle.types.specs.Memory.{Holds, arena-of}
+use Rattle.types.specs.Memory.{Holds}
 use Rattle.types.specs.Reply.{tabled, judged, rooted}
 use Rattle.types.specs.declared.Counters.{Counters}
 use Rattle.types.proofs.Memories.{arena-of-holds, unsound}

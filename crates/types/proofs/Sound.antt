@@ -1,20 +1,20 @@
 -- A sound arena: its parts, its nodes, and where a node is found.
-use Prim.Native.Nat.{ℕ, _<_, _≤_}
+use Prim.Native.Nat.{ℕ, _<_}
 use mathlib.Core.Path.{_≡_, refl, sym, ap, _∙_}
-use mathlib.Core.Bool.{Bool, true, false, _&&_}
+use mathlib.Core.Bool.{Bool, true, false}
 use mathlib.Core.List.{List, [], _∷_, map}
-use mathlib.Core.Option.{Option, none, some}
+use mathlib.Core.Option.{Option, some}
 use native.Mathlib.Omega.{arith}
 use lib.ListN.{length, getD}
 use lib.Dec.{eqb}
 use borrow.Author.Tests.{eqb-true, eqb-false}
 use Rattle.types.specs.Same.{same}
-use Rattle.types.specs.Node.{Tag, bound, positive, Node, node, tag, children, names, node-dec, below, formed, linked, well}
-use Rattle.types.specs.Arena.{Arena, at, rec, fold, find, absent, sound, Ext, here, more}
+use Rattle.types.specs.Node.{Tag, Node, node, tag, children, node-dec, below, formed, linked, well}
+use Rattle.types.specs.Arena.{Arena, at, fold, find, absent, sound, Ext, here, more}
 use Rattle.types.proofs.Tests.{true-false, and-true, both, same-true, same-if}
 use Rattle.types.proofs.Lists.{below-at, below-cons}
-use Rattle.types.proofs.Decodes.{Well, well-parts}
-use Rattle.types.proofs.Growth.{at-grow, at-new, ext-tail, ext-rec, Before, before, rec-at}
+use Rattle.types.proofs.Decodes.{well-parts}
+use Rattle.types.proofs.Growth.{at-grow, at-new, ext-tail, ext-rec, before, rec-at}
 
 module _ (table : ℕ) (x : Node) (s : Arena) where
   module _ (h : sound table (x ∷ s) ≡ true) where

@@ -1,12 +1,12 @@
 -- An arena is the list of its nodes, the newest first: a node's number is how many stand behind it.
 use Prim.Native.Nat.{ℕ}
 use mathlib.Core.Bool.{Bool, true, false, _&&_}
-use mathlib.Core.List.{List, [], _∷_, _++_, map}
+use mathlib.Core.List.{List, [], _∷_, map}
 use mathlib.Core.Option.{Option, none, some}
 use lib.ListN.{length}
 use lib.Dec.{eqb}
 use Rattle.types.specs.Same.{same}
-use Rattle.types.specs.Node.{Node, node, Tag, bound, positive, tag, children, node-dec, encode, well}
+use Rattle.types.specs.Node.{Node, node, Tag, bound, positive, tag, children, node-dec, well}
 
 -- the newest node first
 abbrev pub Arena : Type 0

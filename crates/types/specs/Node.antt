@@ -6,7 +6,7 @@ use mathlib.Core.List.{List, [], _∷_, _++_, map}
 use mathlib.Core.Option.{Option, none, some}
 use native.Mathlib.Decide.{ℕ-discrete}
 use lib.ListN.{length, getD, take}
-use lib.Dec.{eqb, leb, ltb}
+use lib.Dec.{eqb, ltb}
 use Rattle.words.specs.Words.{bit, head-word, head-kind, head-open, head-dynamic, field-word, field-optional, field-name, child}
 use Rattle.types.specs.Same.{list-dec, numbers-dec, same-numbers}
 use Rattle.types.specs.Kind as kinds

@@ -1,9 +1,8 @@
 -- Places and their signs (01, "Places and passes"; the paper on the polarity of an occurrence).
 use Prim.Native.Nat.{ℕ, zero, suc, _<_}
 use mathlib.Core.Path.{_≡_}
-use mathlib.Core.List.{List}
 use lib.ListN.{length, getD}
-use Rattle.types.specs.Node.{Polarity, positive, negative, Field, Form, primitive, list, lambda, attrset, named, Tag, members, bound, var, neg, form, Node, node, tag, children}
+use Rattle.types.specs.Node.{Polarity, positive, negative, primitive, list, lambda, attrset, named, Tag, members, bound, var, neg, form, tag, children}
 use Rattle.types.specs.Arena.{Arena, at}
 
 -- the other side

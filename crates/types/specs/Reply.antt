@@ -1,6 +1,6 @@
 -- What a call open to a host answers and leaves, and the order of refusals that all of them share (01, "Who can cause which number").
 use Prim.Native.Nat.{ℕ}
-use mathlib.Core.Bool.{Bool, true, false}
+use mathlib.Core.Bool.{true, false}
 use mathlib.Core.List.{List}
 use mathlib.Core.Option.{Option}
 use lib.ListN.{length}

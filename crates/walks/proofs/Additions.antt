@@ -1,5 +1,5 @@
 -- One number put into the set of its sign; the sign of a child.
-use Prim.Native.Nat.{ℕ, zero, suc, _<_}
+use Prim.Native.Nat.{ℕ, zero, suc}
 use mathlib.Core.Path.{_≡_, refl, sym, ap, _∙_, subst}
 use mathlib.Core.Bool.{Bool, true, false, not, _&&_, _||_}
 use mathlib.Core.List.{List}
@@ -10,7 +10,7 @@ use Rattle.types.specs.Kind.{disc}
 use Rattle.types.specs.Node.{Polarity, positive, negative, Tag, members, bound, var, neg, form, primitive, list, lambda, attrset, named, kind}
 use Rattle.types.specs.Places.{opposite, child-sign}
 use Rattle.bits.specs.Bits.{has, Row, Put}
-use Rattle.walks.specs.Signs.{side, sign-of, turned, flag-after, Rows, Room, Adds}
+use Rattle.walks.specs.Signs.{side, sign-of, turned, flag-after, Room, Adds}
 
 -- ---- a number more in one set
 module _ {x y : List ℕ} {n : ℕ} (P : Put x n y) where

@@ -1,15 +1,15 @@
 -- The loop from the root down: the sets hold only nodes with places, and from the node reached on they are closed under children.
-use Prim.Native.Nat.{ℕ, suc, _+_, _-_, _<_, _≤_}
-use mathlib.Core.Path.{_≡_, refl, sym, ap, _∙_, subst}
-use mathlib.Core.Bool.{Bool, true, false}
-use mathlib.Core.List.{List, [], _∷_}
+use Prim.Native.Nat.{ℕ, _+_, _-_, _<_, _≤_}
+use mathlib.Core.Path.{_≡_, refl, sym, _∙_, subst}
+use mathlib.Core.Bool.{true}
+use mathlib.Core.List.{List}
 use mathlib.Core.Logic.{_⊎_, inl, inr}
 use native.Mathlib.Decide.{ℕ-discrete}
 use native.Mathlib.Omega.{arith}
 use mir.Syntax.{w32, w64}
 use mir.Val.{Fits}
-use lib.ListN.{length, getD, replicate, length-replicate}
-use Rattle.types.specs.Node.{Polarity, positive, negative, Node, tag, children}
+use lib.ListN.{getD, replicate, length-replicate}
+use Rattle.types.specs.Node.{Polarity, positive, negative, tag, children}
 use Rattle.types.specs.Arena.{Arena, at}
 use Rattle.types.specs.Places.{child-sign, Place, self, down}
 use Rattle.types.specs.Memory.{Holds}

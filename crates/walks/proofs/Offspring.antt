@@ -1,5 +1,5 @@
 -- The children that a node's words hold: none below kind 4, and from there on one in each body word.
-use Prim.Native.Nat.{ℕ, suc, _+_, _-_, _<_, _≤_}
+use Prim.Native.Nat.{ℕ, _+_, _-_, _<_, _≤_}
 use mathlib.Core.Path.{_≡_, refl, sym, ap, _∙_}
 use mathlib.Core.List.{List, [], _∷_, map}
 use mathlib.Core.Option.{Option, none, some}
@@ -12,7 +12,7 @@ use Rattle.types.specs.Kind as kinds
 use Rattle.types.specs.Kind.{Kind, disc, kind-of, body-of}
 use Rattle.types.specs.Node.{children-of}
 use Rattle.types.specs.Fault.{kind-children, children-in}
-use Rattle.node_faults.proofs.KindCases.{no-kind, IsKind, is-kind}
+use Rattle.node_faults.proofs.KindCases.{no-kind, is-kind}
 
 low : (k : Kind) (b : List ℕ) → disc k < 4 → children-of (body-of k) b ≡ []
 unfolding children-of

@@ -1,5 +1,5 @@
 -- The test `reaches` is `Reachable`: a path of children, of whatever signs.
-use Prim.Native.Nat.{ℕ, zero, suc, _<_, _≤_}
+use Prim.Native.Nat.{ℕ, zero, suc, _<_}
 use mathlib.Core.Path.{_≡_, refl, sym, ap, _∙_, subst}
 use mathlib.Core.Bool.{Bool, true, false, _||_}
 use mathlib.Core.List.{List, [], _∷_, map}
@@ -7,11 +7,11 @@ use native.Mathlib.Omega.{arith}
 use lib.ListN.{length, getD}
 use lib.Dec.{eqb}
 use borrow.Author.Tests.{eqb-true, eq-eqb}
-use Rattle.types.specs.Node.{Polarity, positive, Node, tag, children}
-use Rattle.types.specs.Arena.{Arena, at, rec, sound}
+use Rattle.types.specs.Node.{Polarity, positive, tag, children}
+use Rattle.types.specs.Arena.{Arena, at, sound}
 use Rattle.types.specs.Places.{child-sign, Place, self, down, Reachable}
 use Rattle.types.proofs.Tests.{true-false}
-use Rattle.types.proofs.Growth.{Before, before, ext-tail, ext-rec, rec-at}
+use Rattle.types.proofs.Growth.{before, ext-tail, ext-rec, rec-at}
 use Rattle.types.proofs.Sound.{child-lower}
 use Rattle.walks.specs.Reach.{some-of, reaches}
 

@@ -1,13 +1,13 @@
 -- The children of a node put into the sets, one by one.
 use Prim.Native.Nat.{ℕ, _+_, _-_, _<_, _≤_}
-use mathlib.Core.Path.{_≡_, refl, sym, ap, _∙_, subst}
-use mathlib.Core.Bool.{Bool, true, false}
-use mathlib.Core.List.{List, []}
+use mathlib.Core.Path.{_≡_, sym, ap, _∙_, subst}
+use mathlib.Core.Bool.{Bool, true}
+use mathlib.Core.List.{List}
 use mathlib.Core.Logic.{_⊎_, inl, inr}
 use native.Mathlib.Decide.{ℕ-discrete}
 use native.Mathlib.Omega.{arith}
 use lib.ListN.{length, getD}
-use Rattle.words.specs.Words.{head-kind, child}
+use Rattle.words.specs.Words.{head-kind}
 use Rattle.types.specs.Node.{Polarity}
 use Rattle.types.specs.Fault.{children-in}
 use Rattle.bits.specs.Bits.{has}

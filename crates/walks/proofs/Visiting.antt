@@ -1,16 +1,13 @@
 -- A node visited at a sign: its words hold its children, and their signs are those of the definition.
-use Prim.Native.Nat.{ℕ, _<_, _≤_}
-use mathlib.Core.Path.{_≡_, refl, sym, ap, _∙_, subst}
+use Prim.Native.Nat.{ℕ, _<_}
+use mathlib.Core.Path.{_≡_, sym, ap, _∙_, subst}
 use mathlib.Core.Bool.{Bool, true, false}
-use mathlib.Core.List.{List, [], _∷_}
+use mathlib.Core.List.{List}
 use mathlib.Core.Logic.{_⊎_, inl, inr}
 use native.Mathlib.Omega.{arith}
-use mir.Syntax.{w32}
-use mir.Val.{Fits}
 use lib.ListN.{length, getD}
 use Rattle.words.specs.Words.{head-kind}
-use Rattle.types.specs.Kind.{disc}
-use Rattle.types.specs.Node.{Polarity, Node, tag, kind, children, encode, formed}
+use Rattle.types.specs.Node.{Polarity, tag, children, encode, formed}
 use Rattle.types.specs.Fault.{children-in}
 use Rattle.types.specs.Arena.{Arena, at}
 use Rattle.types.specs.Places.{child-sign}
@@ -22,7 +19,7 @@ use Rattle.types.proofs.Faults.{children-encode}
 use Rattle.types.proofs.Sound.{at-formed}
 use Rattle.types.proofs.Addresses.{start-room}
 use Rattle.bits.specs.Bits.{has}
-use Rattle.arena.specs.Stored.{Lent, InRange, NodeAt}
+use Rattle.arena.specs.Stored.{InRange, NodeAt}
 use Rattle.walks.specs.Signs.{side, sign-of, turned, flag-after, Rows, WordChild, AddsSome, AddsWords, ChildOf, AddsAll, Visits, Marking}
 use Rattle.walks.proofs.Additions.{flag-sign}
 
