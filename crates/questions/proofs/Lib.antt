@@ -1,3 +1,5 @@
-pub mod HeadKinds
-pub mod MetVars
-pub mod Names
+pub mod NodeReads
+pub mod VarWalks
+pub mod VarPlaces
+pub mod Sharing
+pub mod NameWalks

@@ -1,2 +1,4 @@
+pub mod Nodes
 pub mod Vars
+pub mod Lambdas
 pub mod Named

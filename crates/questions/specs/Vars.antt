@@ -1,54 +1,59 @@
--- Has the type of a root a variable?
-use Prim.Native.Nat.{ℕ, zero, suc}
+-- Has the type of a root a variable, anywhere or outside lambdas' params? (01, "arena")
+use Prim.Native.Nat.{ℕ, _<_, _≤_}
 use mathlib.Core.Path.{_≡_}
-use mathlib.Core.Bool.{Bool, false, _&&_, _||_}
-use mathlib.Core.List.{List}
-use lib.ListN.{length}
+use mathlib.Core.Bool.{Bool, true, false, _&&_, _||_}
+use mathlib.Core.List.{List, map}
+use lib.ListN.{length, getD, drop}
 use lib.Dec.{eqb}
+use Rattle.words.specs.Words.{bit, head-kind}
 use Rattle.types.specs.Out.{Out, ok, refuse}
 use Rattle.types.specs.Kind as kinds
-use Rattle.types.specs.Kind.{Kind, disc}
-use Rattle.types.specs.Node.{Node, tag, kind}
-use Rattle.types.specs.Arena.{Arena, at}
-use Rattle.types.specs.Memory.{Holds}
-use Rattle.types.specs.declared.Counters.{Counters}
+use Rattle.types.specs.Kind.{disc}
+use Rattle.types.specs.Node.{Tag, tag, kind, children}
+use Rattle.types.specs.Arena.{Arena, at, fold}
+use Rattle.types.specs.Fault.{children-in}
 use Rattle.bits.specs.Bits.{has}
-use Rattle.walks.specs.Reach.{reaches}
+use Rattle.walks.specs.Reach.{some-of}
 use Rattle.questions.specs.declared.vars.Asked.{Asked}
 use Rattle.questions.specs.declared.vars.Asked.the-variants as asked
 
--- has the node this kind?
-abbrev pub of-kind : Kind → Node → Bool
-of-kind k x = eqb (disc (kind (tag x))) (disc k)
+-- how many of the first children of a node of this kind are passed over: a lambda's param, if `skip` says so
+abbrev pub passed-over : Bool → ℕ → ℕ
+passed-over skip k = bit (skip && eqb k (disc kinds.lambda))
 
--- is it a variable?
-abbrev pub is-var : Node → Bool
-is-var = of-kind kinds.ty-var
+-- a node of this kind has a variable if it is one, or if a child has one that isn't passed over
+abbrev pub kind-has : Bool → ℕ → List Bool → Bool
+kind-has skip k bs = eqb k (disc kinds.ty-var) || some-of (drop (passed-over skip k) bs)
 
--- does a number below n pass?
-unfoldable pub some-below : (ℕ → Bool) → ℕ → Bool
-some-below f zero = false
-some-below f (suc n) = f n || some-below f n
+unfoldable pub has-var : Bool → Arena → ℕ → Bool
+unfolding fold some-of
+has-var skip = fold (λ (t : Tag) (bs : List Bool). kind-has skip (disc (kind t)) bs)
 
--- some reachable node is a variable (01, "arena"; the theorem `vars-place` says it with places)
-unfoldable pub has-type-vars : Arena → ℕ → Bool
-unfolding reaches some-below at
-has-type-vars a root = some-below (λ (n : ℕ). reaches a root n && is-var (at a n)) (length a)
+-- anywhere in the type
+abbrev pub has-type-vars : Arena → ℕ → Bool
+has-type-vars = has-var false
+
+-- outside lambdas' params
+abbrev pub contains-bare-tyvar : Arena → ℕ → Bool
+contains-bare-tyvar = has-var true
+
+-- a path of children from node n to node u that takes none that is passed over; the theorems `var-walk` and `walk-var` say the questions with it
+pub data Walk (skip : Bool) (a : Arena) : ℕ → ℕ → Type 0 where
+  self : {n : ℕ} → Walk skip a n n
+  down : {n u : ℕ} (i : ℕ) → passed-over skip (disc (kind (tag (at a n)))) ≤ i → i < length (children (at a n)) → Walk skip a (getD (children (at a n)) i 0) u → Walk skip a n u
+
+-- the same of a node's words, where f says which children have one
+unfoldable pub words-have : Bool → (ℕ → Bool) → List ℕ → Bool
+unfolding some-of head-kind children-in
+words-have skip f ws = kind-has skip (head-kind (getD ws 0 0)) (map f (children-in ws))
+
+-- t is the set s, and n is in it if b says so
+pub record Learned (b : Bool) (n : ℕ) (s t : List ℕ) : Type 0 where
+  pub long : length t ≡ length s
+  pub new : has t n ≡ (b || has s n)
+  pub old : (m : ℕ) → (m ≡ n → ⊥) → has t m ≡ has s m
 
 -- the enum's cases: whether it is so; the number of a refusal
 abbrev pub asked-out : Asked → Out Bool
 asked-out (asked.Is b) = ok b
 asked-out (asked.Refused e) = refuse e
-
--- ---- in any arena that memory holds
--- r is the kind of node n
-pub record KindAt (w s : List ℕ) (c : Counters) (n r : ℕ) : Type 0 where
-  pub is : (table : ℕ) (a : Arena) → Holds table w s c a → r ≡ disc (kind (tag (at a n)))
-
--- is node n in the set, and a variable?
-pub record MetVar (w s : List ℕ) (c : Counters) (met : List ℕ) (n : ℕ) (r : Bool) : Type 0 where
-  pub is : (table : ℕ) (a : Arena) → Holds table w s c a → r ≡ (has met n && is-var (at a n))
-
--- is any?
-pub record SomeVar (w s : List ℕ) (c : Counters) (met : List ℕ) (r : Bool) : Type 0 where
-  pub is : (table : ℕ) (a : Arena) → Holds table w s c a → r ≡ some-below (λ (n : ℕ). has met n && is-var (at a n)) (length a)

@@ -1,24 +1,15 @@
 // What a named type stands for.
-use crate::vars::kind_at;
+use crate::nodes::first_child;
+use crate::nodes::kind_at;
 use arena::sound::Judged;
 use arena::sound::judge;
-use arena::stored::node_at;
 use types::Counters;
 use types::arc_ty::Head;
 use types::arc_ty::wide;
-use walks::children::child_at;
 ghost use mathlib.Core.Path.{_≡_};
 ghost use Rattle.arena.specs.Stored.{Lent, InRange};
 ghost use Rattle.walks.specs.Asked.{ask-reply, Says, Answers};
-ghost use Rattle.questions.specs.Named.{unwrap-named, unwrapped-out, NamedAt, FirstChild};
-
-// The type that a named type names.
-fn inner(words: &[u32], starts: &[u32], c: Counters, n: usize) -> usize
-    requires { ⌜ NamedAt (now words) (now starts) c n ⌝ }
-    ensures { λ r. ⌜ FirstChild (now (words .entry)) (now (starts .entry)) c n r ⌝ }
-{
-    wide(child_at(node_at(words, starts, c, n), 0))
-}
+ghost use Rattle.questions.specs.Named.{unwrap-named, unwrapped-out};
 
 // The first node on the way down from the root that is no named type.
 fn stands_for(words: &[u32], starts: &[u32], c: Counters, root: usize) -> usize
@@ -28,7 +19,7 @@ fn stands_for(words: &[u32], starts: &[u32], c: Counters, root: usize) -> usize
     let mut n = root;
     let mut kind = kind_at(words, starts, c, n);
     while kind == Head::NAMED {
-        n = inner(words, starts, c, n);
+        n = first_child(words, starts, c, n);
         kind = kind_at(words, starts, c, n);
     }
     n

@@ -1,61 +1,77 @@
-// Whether a type has variables.
+// Whether a type has variables. Children have lower numbers, so one loop from node 0 up to the root knows of each node's children
+// before it comes to the node.
+use crate::nodes::kind_in;
 use arena::sound::Judged;
 use arena::sound::judge;
 use arena::stored::node_at;
+use bits::put;
 use bits::test;
 use types::Counters;
 use types::arc_ty::Head;
 use types::arc_ty::wide;
-use walks::reach::reachable;
+use walks::children::child_at;
+use walks::children::child_count;
 ghost use mathlib.Core.Path.{_≡_};
-ghost use lib.ListN.{getD};
-ghost use Rattle.words.specs.Words.{head-kind};
+ghost use mathlib.Core.List.{map};
+ghost use lib.ListN.{drop};
+ghost use Rattle.types.specs.Fault.{children-in};
+ghost use Rattle.bits.specs.Bits.{has, Row};
 ghost use Rattle.arena.specs.Stored.{Lent, InRange};
-ghost use Rattle.walks.specs.Asked.{ask-reply, Answers};
-ghost use Rattle.questions.specs.Vars.{has-type-vars, asked-out, KindAt, MetVar, SomeVar};
+ghost use Rattle.walks.specs.Asked.{ask-reply, Says, Answers};
+ghost use Rattle.walks.specs.Reach.{some-of};
+ghost use Rattle.questions.specs.Vars.{has-var, has-type-vars, contains-bare-tyvar, words-have, Learned, asked-out};
 
-// The kind in the head of a node's words.
-fn kind_in(node: &[u32]) -> u32
-    ensures { λ r. ⌜ r ≡ head-kind (getD (now (node .entry)) 0 0) ⌝ }
+// Whether one of the children in the words of a node, from one on, is in the set.
+fn some_child(node: &[u32], from: usize, met: &[u64; 64]) -> bool
+    ensures { λ r. ⌜ r ≡ some-of (drop from (map (has (now (met .entry))) (children-in (now (node .entry))))) ⌝ }
 {
-    if node.len() == 0 {
-        return 0;
-    }
-    let head = Head { word: node[0] };
-    head.kind()
-}
-
-// The kind of node n.
-pub fn kind_at(words: &[u32], starts: &[u32], c: Counters, n: usize) -> u32
-    requires { ⌜ InRange (now words) (now starts) c n ⌝ }
-    ensures { λ r. ⌜ KindAt (now (words .entry)) (now (starts .entry)) c n r ⌝ }
-{
-    kind_in(node_at(words, starts, c, n))
-}
-
-// Whether node n is in the set and a variable.
-fn is_met_var(words: &[u32], starts: &[u32], c: Counters, met: &[u64; 64], n: usize) -> bool
-    requires { ⌜ InRange (now words) (now starts) c n ⌝ }
-    ensures { λ r. ⌜ MetVar (now (words .entry)) (now (starts .entry)) c (now (met .entry)) n r ⌝ }
-{
-    let there = test(met, n as u32);
-    let kind = kind_at(words, starts, c, n);
-    there & (kind == Head::TY_VAR)
-}
-
-// Whether a variable is in the set.
-fn some_var(words: &[u32], starts: &[u32], c: Counters, met: &[u64; 64]) -> bool
-    requires { ⌜ Lent (now words) (now starts) c ⌝ }
-    ensures { λ r. ⌜ SomeVar (now (words .entry)) (now (starts .entry)) c (now (met .entry)) r ⌝ }
-{
-    let mut n = 0;
-    while n < c.nodes {
-        if is_met_var(words, starts, c, met, n) {
+    let count = child_count(node);
+    let mut i = from;
+    while i < count {
+        if test(met, child_at(node, i)) {
             return true;
         }
-        n += 1;
+        i += 1;
     }
     false
+}
+
+// Whether the words are those of a variable, or have a child in the set. A lambda's param is passed over if `skip` says so.
+fn words_have(node: &[u32], skip: bool, met: &[u64; 64]) -> bool
+    ensures { λ r. ⌜ r ≡ words-have skip (has (now (met .entry))) (now (node .entry)) ⌝ }
+{
+    let kind = kind_in(node);
+    if kind == Head::TY_VAR {
+        return true;
+    }
+    if skip & (kind == Head::LAMBDA) {
+        return some_child(node, 1, met);
+    }
+    some_child(node, 0, met)
+}
+
+// Puts the node n with these words into the set, if it has a variable.
+fn learn(node: &[u32], skip: bool, n: usize, met: &mut [u64; 64])
+    requires { ⌜ Row (now met) n ⌝ }
+    ensures { λ _. ⌜ Learned (words-have skip (has (now (met .entry))) (now (node .entry))) n (now (met .entry)) (now (met .exit)) ⌝ }
+{
+    if words_have(node, skip, met) {
+        put(met, n as u32);
+    }
+}
+
+// Whether the type of the root has a variable, lambdas' params passed over or not. The set has the nodes whose types have one.
+fn has_var(words: &[u32], starts: &[u32], c: Counters, root: usize, skip: bool) -> bool
+    requires { ⌜ InRange (now words) (now starts) c root ⌝ }
+    ensures { λ r. ⌜ Says (has-var skip) (now (words .entry)) (now (starts .entry)) c root r ⌝ }
+{
+    let mut met = [0u64; 64];
+    let mut n = 0;
+    while n < root {
+        learn(node_at(words, starts, c, n), skip, n, &mut met);
+        n += 1;
+    }
+    words_have(node_at(words, starts, c, root), skip, &met)
 }
 
 // Whether it is so, or the number of a refusal.
@@ -64,27 +80,46 @@ pub enum Asked {
     Refused(u32),
 }
 
-// Whether the type of the root has a variable, in an arena that is known to be sound.
-fn has_type_vars_in(words: &[u32], starts: &[u32], c: Counters, root: usize) -> Asked
+// The same in an arena that is known to be sound, for any root.
+fn has_var_in(words: &[u32], starts: &[u32], c: Counters, root: usize, skip: bool) -> Asked
     requires { ⌜ Lent (now words) (now starts) c ⌝ }
-    ensures { λ r. ⌜ Answers has-type-vars (now (words .entry)) (now (starts .entry)) c root (asked-out r) ⌝ }
+    ensures { λ r. ⌜ Answers (has-var skip) (now (words .entry)) (now (starts .entry)) c root (asked-out r) ⌝ }
 {
     if root >= c.nodes {
         return Asked::Refused(6);
     }
-    let met = reachable(words, starts, c, root);
-    Asked::Is(some_var(words, starts, c, &met))
+    Asked::Is(has_var(words, starts, c, root, skip))
+}
+
+// The same in any memory.
+fn ask_var(table: &[u8], words: &[u32], starts: &[u32], c: Counters, root: u32, skip: bool) -> Asked
+    ensures { λ r. ⌜ asked-out r ≡ ask-reply (has-var skip) (now (table .entry)) (now (words .entry)) (now (starts .entry)) c root ⌝ }
+{
+    let lent = judge(table, words, starts, c);
+    match lent {
+        Judged::Names(count) => has_var_in(words, starts, c, wide(root), skip),
+        Judged::Refused(number) => Asked::Refused(number),
+    }
 }
 
 // Whether the type of the root has a variable.
 pub fn has_type_vars(table: &[u8], words: &[u32], starts: &[u32], c: Counters, root: u32) -> Asked
     ensures { λ r. ⌜ asked-out r ≡ ask-reply has-type-vars (now (table .entry)) (now (words .entry)) (now (starts .entry)) c root ⌝ }
 {
-    let lent = judge(table, words, starts, c);
-    match lent {
-        Judged::Names(count) => has_type_vars_in(words, starts, c, wide(root)),
-        Judged::Refused(number) => Asked::Refused(number),
-    }
+    ask_var(table, words, starts, c, root, false)
+}
+
+// Whether it has one outside lambdas' params.
+pub fn contains_bare_tyvar(
+    table: &[u8],
+    words: &[u32],
+    starts: &[u32],
+    c: Counters,
+    root: u32,
+) -> Asked
+    ensures { λ r. ⌜ asked-out r ≡ ask-reply contains-bare-tyvar (now (table .entry)) (now (words .entry)) (now (starts .entry)) c root ⌝ }
+{
+    ask_var(table, words, starts, c, root, true)
 }
 
 // Whether `normalize_replacing_unknown` has something to do: wherever the type has a variable at all, as the Rust has it.

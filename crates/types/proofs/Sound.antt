@@ -51,11 +51,14 @@ module _ (table : ℕ) (a : Arena) (h : sound table a ≡ true) (n : ℕ) (l : n
   at-formed = well-parts table n (at a n) at-well .formed-so
 
   -- each child has a lower number
+  pub children-below : below n (children (at a n)) ≡ true
+  children-below = linked-children table n (at a n) (well-parts table n (at a n) at-well .linked-so)
+
   pub child-lower : (i : ℕ) → i < length (children (at a n)) → getD (children (at a n)) i 0 < n
-  child-lower = below-at n (children (at a n)) (linked-children table n (at a n) (well-parts table n (at a n) at-well .linked-so))
+  child-lower = below-at n (children (at a n)) children-below
 
 -- ---- the value of a node, from its children's
-map-below {ℓ} : {Y : Type ℓ} (f g : ℕ → Y) (n : ℕ) (cs : List ℕ) → below n cs ≡ true → ((c : ℕ) → c < n → f c ≡ g c) → map f cs ≡ map g cs
+pub map-below {ℓ} : {Y : Type ℓ} (f g : ℕ → Y) (n : ℕ) (cs : List ℕ) → below n cs ≡ true → ((c : ℕ) → c < n → f c ≡ g c) → map f cs ≡ map g cs
 map-below f g n [] e h = refl
 map-below f g n (c ∷ cs) e h = let p = below-cons n c cs e in λ i. h c (p .0) i ∷ map-below f g n cs (p .1) h i
 
@@ -64,7 +67,7 @@ unfolding fold
 fold-at value table a h n l =
     let B = before a n l in
     let old : (c : ℕ) → c < n → fold value (B .older) c ≡ fold value a c = λ c k. sym (ext-rec _ _ (B .older) a (ext-tail (B .ext)) c (omega (arith, B .count))) in
-    rec-at _ _ a n l ∙ ap (value (tag (at a n))) (map-below (fold value (B .older)) (fold value a) n (children (at a n)) (linked-children table n (at a n) (well-parts table n (at a n) (at-well table a h n l) .linked-so)) old)
+    rec-at _ _ a n l ∙ ap (value (tag (at a n))) (map-below (fold value (B .older)) (fold value a) n (children (at a n)) (children-below table a h n l) old)
 
 pub ext-fold {ℓ} : {Y : Type ℓ} (value : Tag → List Y → Y) (b a : Arena) → Ext b a → (n : ℕ) → n < length b → fold value a n ≡ fold value b n
 unfolding fold

@@ -16,12 +16,12 @@ use Rattle.types.proofs.Sound.{child-lower}
 use Rattle.walks.specs.Reach.{some-of, reaches}
 
 -- ---- one of several tests
-record Some (g : ℕ → Bool) (cs : List ℕ) : Type 0 where
+pub record Some (g : ℕ → Bool) (cs : List ℕ) : Type 0 where
   pub index : ℕ
   pub inside : index < length cs
   pub passes : g (getD cs index 0) ≡ true
 
-some-in : (g : ℕ → Bool) (cs : List ℕ) → some-of (map g cs) ≡ true → Some g cs
+pub some-in : (g : ℕ → Bool) (cs : List ℕ) → some-of (map g cs) ≡ true → Some g cs
 unfolding some-of
 some-in g [] e = absurd (true-false (sym e))
 some-in g (c ∷ cs) e = go (g c) refl e (some-in g cs)
@@ -34,7 +34,7 @@ pub or-right : (b c : Bool) → c ≡ true → (b || c) ≡ true
 or-right true c e = refl
 or-right false c e = e
 
-in-some : (g : ℕ → Bool) (cs : List ℕ) (i : ℕ) → i < length cs → g (getD cs i 0) ≡ true → some-of (map g cs) ≡ true
+pub in-some : (g : ℕ → Bool) (cs : List ℕ) (i : ℕ) → i < length cs → g (getD cs i 0) ≡ true → some-of (map g cs) ≡ true
 unfolding some-of
 in-some g [] i l e = absurd (omega arith)
 in-some g (c ∷ cs) zero l e = rw e

@@ -1,5 +1,5 @@
 -- The invariant: the node reached stands for what the root stands for; numbers fall.
-use Rattle.questions.proofs.Names.{Down, down-start, down-named, down-less, down-range, down-more, down-done}
+use Rattle.questions.proofs.NameWalks.{Down, down-start, down-parent, down-less, down-range, down-more, down-done}
 use borrow.Author.Needs.{needs}
 use Rattle.questions.proofs.named.stands_for.Statement.{statement}
 use Rattle.questions.proofs.named.stands_for.Tie as tie
@@ -16,11 +16,11 @@ kind-at-requires c κs = search needs
 loop-holds : tie.Need-loop-holds Inv-loop μ-loop
 loop-holds c = search down-start
 
-inner-requires : tie.Need-inner-requires Inv-loop μ-loop
-inner-requires c κs = search down-named
+first-child-requires : tie.Need-first-child-requires Inv-loop μ-loop
+first-child-requires c κs = search down-parent
 
 kind-at-requires-2 : tie.Need-kind-at-requires-2 Inv-loop μ-loop
-kind-at-requires-2 c κs = down-range (c .before .before .loop .inv) (c .before .loop-test .taken) (c .inner .ensures)
+kind-at-requires-2 c κs = down-range (c .before .before .loop .inv) (c .before .loop-test .taken) (c .first-child .ensures)
 
 loop-less : tie.Need-loop-less Inv-loop μ-loop
 loop-less c = search down-less
@@ -39,7 +39,7 @@ stands-for-spec =
     μ-loop
     kind-at-requires
     loop-holds
-    inner-requires
+    first-child-requires
     kind-at-requires-2
     loop-less
     loop-again

@@ -1,0 +1,41 @@
+-- 1 and 2 are the verdict's; what follows them is that of `shares_in`.
+use Rattle.walks.proofs.Asking.{ask-refused, ask-done}
+use Rattle.arena.proofs.Verdicts.{lent-known}
+use borrow.Author.Needs.{needs}
+use Rattle.questions.proofs.lambdas.has_shared_tyvar_across_lambda_params.Statement.{
+  statement,
+}
+use Rattle.questions.proofs.lambdas.has_shared_tyvar_across_lambda_params.Tie as tie
+
+judge-requires : tie.Need-judge-requires
+judge-requires c κs = search needs
+
+enum-known-lent : tie.Need-enum-known-lent
+enum-known-lent c = search needs
+
+wide-requires : tie.Need-wide-requires
+wide-requires c κs = search needs
+
+shares-in-requires : tie.Need-shares-in-requires
+shares-in-requires c κs = search lent-known
+
+enum-known-lent-2 : tie.Need-enum-known-lent-2
+enum-known-lent-2 c = search needs
+
+returns : tie.Need-returns
+returns c = search ask-done
+
+returns-2 : tie.Need-returns-2
+returns-2 c = search ask-refused
+
+pub has-shared-tyvar-across-lambda-params-spec : {M : Type 1} → statement M
+has-shared-tyvar-across-lambda-params-spec =
+    tie.close
+    (tie.spec
+    judge-requires
+    enum-known-lent
+    wide-requires
+    shares-in-requires
+    enum-known-lent-2
+    returns
+    returns-2)
