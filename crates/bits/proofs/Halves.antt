@@ -1,13 +1,13 @@
--- One word: a bit by halving is what a shift reads, and what `|` sets.
-use Prim.Native.Nat.{ℕ, zero, suc, _*_, _/_, _%_, _^_, _<_, max}
-use mathlib.Core.Path.{_≡_, refl, sym, ap, _∙_}
-use mathlib.Core.Bool.{true, false, _||_}
+-- One word: a bit by halving is what a shift reads, and `|` and `^` go bit by bit.
+use Prim.Native.Nat.{ℕ, zero, suc, _+_, _*_, _/_, _%_, _^_, _<_, max}
+use mathlib.Core.Path.{_≡_, refl, sym, ap, ap₂, _∙_}
+use mathlib.Core.Bool.{Bool, true, false, _||_, xor, or-true, or-false}
 use native.Mathlib.Nat.{pow-suc, pow-zero, div-div-eq-div-mul, mul-comm, div-one}
 use native.Mathlib.Omega.{arith}
 use lib.Dec.{eqb}
-use lib.Bits.{bitOr, or-step, or-zero-r}
+use lib.Bits.{differ, bitOr, bitXor, or-step, xor-step}
 use lib.Pow.{shl-exact}
-use Rattle.bits.specs.Bits.{bit}
+use Rattle.bits.specs.Bits.{bit, either, either-word}
 
 pub bit-shift : (x b : ℕ) → eqb (x / 2 ^ b % 2) 1 ≡ bit x b
 unfolding bit
@@ -18,50 +18,87 @@ bit-shift x (suc b) =
 half-pow : (b : ℕ) → 2 ^ suc b ≡ 2 * 2 ^ b
 half-pow b = pow-suc 2 b ∙ mul-comm (2 ^ b) 2
 
-or-half : (x y : ℕ) → bitOr x y / 2 ≡ bitOr (x / 2) (y / 2)
-or-half x y = rw (or-step x y) (omega arith)
-
-or-odd : (x y : ℕ) → bitOr x y % 2 ≡ max (x % 2) (y % 2)
-or-odd x y = rw (or-step x y) (omega arith)
-
-pub or-same : (x b : ℕ) → bit (bitOr x (2 ^ b)) b ≡ true
-unfolding bit
-or-same x zero = let e : bitOr x (2 ^ 0) % 2 ≡ 1 = or-odd x (2 ^ 0) ∙ omega arith in rw e
-or-same x (suc b) =
-    let e : 2 ^ suc b / 2 ≡ 2 ^ b = omega (arith, half-pow b) in
-    rw (or-half x (2 ^ suc b), e) (or-same (x / 2) b)
-
-pub or-other : (x b j : ℕ) → (j ≡ b → ⊥) → bit (bitOr x (2 ^ b)) j ≡ bit x j
-unfolding bit
-or-other x zero zero ne = absurd (ne refl)
-or-other x zero (suc j) ne = rw (or-half x (2 ^ 0)) (rw (or-zero-r (x / 2)))
-or-other x (suc b) zero ne =
-    let e : bitOr x (2 ^ suc b) % 2 ≡ x % 2 = or-odd x (2 ^ suc b) ∙ omega (arith, half-pow b) in
-    rw e
-or-other x (suc b) (suc j) ne =
-    let e : 2 ^ suc b / 2 ≡ 2 ^ b = omega (arith, half-pow b) in
-    rw (or-half x (2 ^ suc b), e) (or-other (x / 2) b j (λ q. ne (ap suc q)))
-
 pub zero-bit : (b : ℕ) → bit 0 b ≡ false
 unfolding bit
 zero-bit zero = refl
 zero-bit (suc b) = zero-bit b
 
+-- ---- the bits of a power
+power-half : (b : ℕ) → 2 ^ suc b / 2 ≡ 2 ^ b
+power-half b = omega (arith, half-pow b)
+
+power-same : (b : ℕ) → bit (2 ^ b) b ≡ true
+unfolding bit
+power-same zero = refl
+power-same (suc b) = rw (power-half b) (power-same b)
+
+power-other : (b j : ℕ) → (j ≡ b → ⊥) → bit (2 ^ b) j ≡ false
+unfolding bit
+power-other zero zero ne = absurd (ne refl)
+power-other zero (suc j) ne = zero-bit j
+power-other (suc b) zero ne = let e : 2 ^ suc b % 2 ≡ 0 = omega (arith, half-pow b) in rw e
+power-other (suc b) (suc j) ne = rw (power-half b) (power-other b j (λ q. ne (ap suc q)))
+
 -- a one shifted within the word
 pub one-shifted : (b : ℕ) → b < 64 → (1 * 2 ^ b) % 18446744073709551616 ≡ 2 ^ b
 one-shifted b h = shl-exact {a = 1} 1 b 64 (omega arith) (omega arith) ∙ omega arith
 
--- each bit of `|` is that of either word
-odd-max : (x y : ℕ) → x < 2 → y < 2 → eqb (max x y) 1 ≡ (eqb x 1 || eqb y 1)
-odd-max zero zero p q = refl
-odd-max zero (suc zero) p q = refl
-odd-max zero (suc (suc y)) p q = absurd (omega arith)
-odd-max (suc zero) zero p q = refl
-odd-max (suc zero) (suc zero) p q = refl
-odd-max (suc zero) (suc (suc y)) p q = absurd (omega arith)
-odd-max (suc (suc x)) y p q = absurd (omega arith)
+-- ---- operations that go bit by bit: `op` does with the lowest digits what `low` does, which is f
+abbrev digit : Bool → ℕ
+digit true = 1
+digit false = 0
 
-pub bit-or : (x y b : ℕ) → bit (bitOr x y) b ≡ (bit x b || bit y b)
-unfolding bit
-bit-or x y zero = ap (λ (k : ℕ). eqb k 1) (or-odd x y) ∙ odd-max (x % 2) (y % 2) (omega arith) (omega arith)
-bit-or x y (suc b) = ap (λ (k : ℕ). bit k b) (or-half x y) ∙ bit-or (x / 2) (y / 2) b
+digit-of : (x : ℕ) → x < 2 → x ≡ digit (eqb x 1)
+digit-of zero h = refl
+digit-of (suc zero) h = refl
+digit-of (suc (suc x)) h = absurd (omega arith)
+
+last-half : (n : ℕ) (p : Bool) → (n * 2 + digit p) / 2 ≡ n
+last-half n true = omega arith
+last-half n false = omega arith
+
+last-odd : (n : ℕ) (p : Bool) → eqb ((n * 2 + digit p) % 2) 1 ≡ p
+last-odd n true = let e : (n * 2 + 1) % 2 ≡ 1 = omega arith in rw e
+last-odd n false = let e : (n * 2 + 0) % 2 ≡ 0 = omega arith in rw e
+
+module _ (op low : ℕ → ℕ → ℕ) (f : Bool → Bool → Bool) (step : (x y : ℕ) → op x y ≡ op (x / 2) (y / 2) * 2 + low (x % 2) (y % 2)) (digits : (p q : Bool) → low (digit p) (digit q) ≡ digit (f p q)) where
+  lowest : (x y : ℕ) → op x y ≡ op (x / 2) (y / 2) * 2 + digit (f (eqb (x % 2) 1) (eqb (y % 2) 1))
+  lowest x y =
+      step x y
+      ∙ ap₂ (λ (p q : ℕ). op (x / 2) (y / 2) * 2 + low p q) (digit-of (x % 2) (omega arith)) (digit-of (y % 2) (omega arith))
+      ∙ ap (λ (d : ℕ). op (x / 2) (y / 2) * 2 + d) (digits (eqb (x % 2) 1) (eqb (y % 2) 1))
+
+  bit-by-bit : (x y b : ℕ) → bit (op x y) b ≡ f (bit x b) (bit y b)
+  unfolding bit
+  bit-by-bit x y zero = ap (λ (n : ℕ). eqb (n % 2) 1) (lowest x y) ∙ last-odd (op (x / 2) (y / 2)) (f (eqb (x % 2) 1) (eqb (y % 2) 1))
+  bit-by-bit x y (suc b) =
+      ap (λ (n : ℕ). bit (n / 2) b) (lowest x y)
+      ∙ ap (λ (n : ℕ). bit n b) (last-half (op (x / 2) (y / 2)) (f (eqb (x % 2) 1) (eqb (y % 2) 1)))
+      ∙ bit-by-bit (x / 2) (y / 2) b
+
+or-digits : (p q : Bool) → max (digit p) (digit q) ≡ digit (p || q)
+or-digits true true = refl
+or-digits true false = refl
+or-digits false true = refl
+or-digits false false = refl
+
+xor-digits : (p q : Bool) → differ (digit p) (digit q) ≡ digit (xor p q)
+unfolding xor
+xor-digits true true = refl
+xor-digits true false = refl
+xor-digits false true = refl
+xor-digits false false = refl
+
+bit-or : (x y b : ℕ) → bit (bitOr x y) b ≡ (bit x b || bit y b)
+bit-or = bit-by-bit bitOr max _||_ or-step or-digits
+
+pub bit-either : (e : Bool) (x y b : ℕ) → bit (either-word e x y) b ≡ either e (bit x b) (bit y b)
+bit-either false = bit-or
+bit-either true = bit-by-bit bitXor differ xor xor-step xor-digits
+
+-- ---- one bit set
+pub or-same : (x b : ℕ) → bit (bitOr x (2 ^ b)) b ≡ true
+or-same x b = bit-or x (2 ^ b) b ∙ ap (λ (p : Bool). bit x b || p) (power-same b) ∙ or-true (bit x b)
+
+pub or-other : (x b j : ℕ) → (j ≡ b → ⊥) → bit (bitOr x (2 ^ b)) j ≡ bit x j
+or-other x b j ne = bit-or x (2 ^ b) j ∙ ap (λ (p : Bool). bit x j || p) (power-other b j ne) ∙ or-false (bit x j)

@@ -1,4 +1,4 @@
 pub mod Halves
 pub mod Sets
 pub mod Steps
-pub mod Unions
+pub mod Combining

@@ -1,9 +1,10 @@
 -- Sets of numbers, one bit a number in words of 64 bits (01, "Forms of the Rust that can't be kept": visited sets).
 use Prim.Native.Nat.{ℕ, zero, suc, _/_, _%_, _^_, _≤_, _<_}
 use mathlib.Core.Path.{_≡_}
-use mathlib.Core.Bool.{Bool, true, false, _||_}
+use mathlib.Core.Bool.{Bool, true, false, _||_, xor}
 use mathlib.Core.List.{List}
 use lib.ListN.{length, getD}
+use lib.Bits.{bitOr, bitXor}
 use lib.Count.{ones}
 use lib.Dec.{eqb}
 
@@ -28,10 +29,28 @@ pub record Put (s : List ℕ) (n : ℕ) (t : List ℕ) : Type 0 where
   pub new : has t n ≡ true
   pub old : (m : ℕ) → (m ≡ n → ⊥) → has t m ≡ has s m
 
--- r is the union of two sets
-pub record Union (s t r : List ℕ) : Type 0 where
-  pub is : (n : ℕ) → n < 4096 → has r n ≡ (has s n || has t n)
+-- r has those numbers of which f says yes, told whether s has them and whether t does
+pub record Combined (f : Bool → Bool → Bool) (s t r : List ℕ) : Type 0 where
+  pub is : (n : ℕ) → n < 4096 → has r n ≡ f (has s n) (has t n)
   pub beyond : (n : ℕ) → 4096 ≤ n → has r n ≡ false
+
+-- the numbers of either set
+abbrev pub Union : List ℕ → List ℕ → List ℕ → Type 0
+Union = Combined _||_
+
+-- the numbers of one set only
+abbrev pub SymmetricDifference : List ℕ → List ℕ → List ℕ → Type 0
+SymmetricDifference = Combined xor
+
+-- by a flag: is one of two true, or if the flag is set, one only?
+abbrev pub either : Bool → Bool → Bool → Bool
+either false = _||_
+either true = xor
+
+-- the same of each bit of two words
+abbrev pub either-word : Bool → ℕ → ℕ → ℕ
+either-word false = bitOr
+either-word true = bitXor
 
 -- how many of the numbers below n pass the test?
 unfoldable pub count-below : (ℕ → Bool) → ℕ → ℕ

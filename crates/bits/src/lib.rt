@@ -1,7 +1,7 @@
 // Sets of node numbers, one bit a node: 64 words of 64 bits. The laws of proofs/Sets.antt hold for rows of any length.
 ghost use Prim.Native.Nat.{_<_};
 ghost use mathlib.Core.Path.{_≡_};
-ghost use Rattle.bits.specs.Bits.{has, Row, Put, Union, count-below, Ones};
+ghost use Rattle.bits.specs.Bits.{has, Row, Put, Combined, Union, SymmetricDifference, either, either-word, count-below, Ones};
 
 // Whether n is in the set.
 pub fn test(seen: &[u64; 64], n: u32) -> bool
@@ -45,15 +45,39 @@ pub fn count(seen: &[u64; 64]) -> u32
     sum
 }
 
-// The numbers of either set.
-pub fn union(s: &[u64; 64], t: &[u64; 64]) -> [u64; 64]
-    ensures { λ r. ⌜ Union (now (s .entry)) (now (t .entry)) r ⌝ }
+// The bits of either word, or if `exclusive` those of one word only.
+fn combine_words(x: u64, y: u64, exclusive: bool) -> u64
+    ensures { λ r. ⌜ r ≡ either-word exclusive x y ⌝ }
+{
+    if exclusive {
+        return x ^ y;
+    }
+    x | y
+}
+
+// The numbers of either set, or if `exclusive` those of one set only.
+fn combine(s: &[u64; 64], t: &[u64; 64], exclusive: bool) -> [u64; 64]
+    ensures { λ r. ⌜ Combined (either exclusive) (now (s .entry)) (now (t .entry)) r ⌝ }
 {
     let mut r = [0u64; 64];
     let mut i = 0;
     while i < 64 {
-        r[i] = s[i] | t[i];
+        r[i] = combine_words(s[i], t[i], exclusive);
         i += 1;
     }
     r
+}
+
+// The numbers of either set.
+pub fn union(s: &[u64; 64], t: &[u64; 64]) -> [u64; 64]
+    ensures { λ r. ⌜ Union (now (s .entry)) (now (t .entry)) r ⌝ }
+{
+    combine(s, t, false)
+}
+
+// The numbers of one set only.
+pub fn symmetric_difference(s: &[u64; 64], t: &[u64; 64]) -> [u64; 64]
+    ensures { λ r. ⌜ SymmetricDifference (now (s .entry)) (now (t .entry)) r ⌝ }
+{
+    combine(s, t, true)
 }

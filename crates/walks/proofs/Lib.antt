@@ -6,3 +6,5 @@ pub mod Marks
 pub mod Asking
 pub mod Reaching
 pub mod Counting
+pub mod Variables
+pub mod OneSigns

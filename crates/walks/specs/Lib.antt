@@ -1,3 +1,4 @@
 pub mod Signs
 pub mod Asked
 pub mod Reach
+pub mod Removable
