@@ -77,7 +77,7 @@ optional-after n (field false m ∷ fs) e =
     let p = and-true (ltb n m) (rising (m ∷ field-names fs)) e in
     after-less n m (optional-names fs) (ltb-true n m (p .0)) (optional-after m fs (p .1))
 
-rising-rest : (n : ℕ) (fs : List Field) → rising (n ∷ field-names fs) ≡ true → rising (field-names fs) ≡ true
+pub rising-rest : (n : ℕ) (fs : List Field) → rising (n ∷ field-names fs) ≡ true → rising (field-names fs) ≡ true
 unfolding rising
 rising-rest n [] e = refl
 rising-rest n (field o m ∷ fs) e = and-true (ltb n m) _ e .1

@@ -8,3 +8,4 @@ pub mod Reaching
 pub mod Counting
 pub mod Variables
 pub mod OneSigns
+pub mod Cooccurrence
