@@ -1,4 +1,3 @@
-pub mod NodeReads
 pub mod VarWalks
 pub mod VarPlaces
 pub mod Sharing

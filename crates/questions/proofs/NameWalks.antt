@@ -17,9 +17,9 @@ use Rattle.types.proofs.Tests.{not-true}
 use Rattle.types.proofs.Growth.{before, ext-tail, ext-rec, rec-at}
 use Rattle.arena.specs.Stored.{Lent, InRange}
 use Rattle.walks.specs.Asked.{Says}
-use Rattle.questions.specs.Nodes.{of-kind, KindAt, ParentAt, FirstChild}
+use Rattle.walks.specs.Nodes.{of-kind, KindAt, ParentAt, FirstChild}
 use Rattle.questions.specs.Named.{unwrap-named}
-use Rattle.questions.proofs.NodeReads.{first-lower, first-range}
+use Rattle.walks.proofs.NodeReads.{first-lower, first-range}
 
 -- ---- one step down
 module _ (table : ℕ) (a : Arena) (n : ℕ) (l : n < length a) where

@@ -27,11 +27,11 @@ use Rattle.walks.specs.Asked.{Says}
 use Rattle.walks.specs.Reach.{reaches, ReachIn}
 use Rattle.walks.proofs.Reaching.{or-right}
 use Rattle.walks.proofs.Marks.{root-small}
-use Rattle.questions.specs.Nodes.{of-kind, is-var, KindAt, ParentAt, FirstChild}
+use Rattle.walks.specs.Nodes.{of-kind, is-var, KindAt, ParentAt, FirstChild}
 use Rattle.questions.specs.Lambdas.{param-of, takes-var, same-var, some-below, shared-in, has-shared-tyvar-across-lambda-params, param-out, taken, passes, ParamAt, ParamRow, Seeing, Shares}
 use Rattle.questions.specs.declared.lambdas.Param.{Param}
 use Rattle.questions.specs.declared.lambdas.Param.the-variants as param
-use Rattle.questions.proofs.NodeReads.{first-there, first-range}
+use Rattle.walks.proofs.NodeReads.{first-there, first-range}
 
 -- ---- what one node takes
 module _ {w s : List ℕ} {c : Counters} {n k : ℕ} (R : InRange w s c n) (K : KindAt w s c n k) where

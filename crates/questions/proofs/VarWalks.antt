@@ -28,7 +28,7 @@ use Rattle.walks.specs.Reach.{some-of}
 use Rattle.walks.proofs.Offspring.{child-small}
 use Rattle.walks.proofs.Marks.{root-small}
 use Rattle.questions.specs.Vars.{kind-has, has-var, words-have, Learned}
-use Rattle.questions.proofs.NodeReads.{kind-encode}
+use Rattle.walks.proofs.NodeReads.{kind-encode}
 
 -- ---- one child after another: the children still to come decide
 pub record Looking (ws met : List ℕ) (from count i : ℕ) : Type 0 where

@@ -1,4 +1,3 @@
-pub mod Nodes
 pub mod Vars
 pub mod Lambdas
 pub mod Named

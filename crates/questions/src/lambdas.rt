@@ -1,7 +1,5 @@
 // Whether two lambdas of a type take the same variable. A sound arena has one node for a variable, so a set of nodes says which
 // variables were taken.
-use crate::nodes::first_child;
-use crate::nodes::kind_at;
 use crate::vars::Asked;
 use arena::sound::Judged;
 use arena::sound::judge;
@@ -10,6 +8,8 @@ use bits::test;
 use types::Counters;
 use types::arc_ty::Head;
 use types::arc_ty::wide;
+use walks::nodes::first_child;
+use walks::nodes::kind_at;
 use walks::reach::reachable;
 ghost use mathlib.Core.Path.{_≡_};
 ghost use mathlib.Core.Bool.{true};

@@ -1,11 +1,11 @@
 // What a named type stands for.
-use crate::nodes::first_child;
-use crate::nodes::kind_at;
 use arena::sound::Judged;
 use arena::sound::judge;
 use types::Counters;
 use types::arc_ty::Head;
 use types::arc_ty::wide;
+use walks::nodes::first_child;
+use walks::nodes::kind_at;
 ghost use mathlib.Core.Path.{_≡_};
 ghost use Rattle.arena.specs.Stored.{Lent, InRange};
 ghost use Rattle.walks.specs.Asked.{ask-reply, Says, Answers};

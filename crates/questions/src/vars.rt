@@ -1,6 +1,5 @@
 // Whether a type has variables. Children have lower numbers, so one loop from node 0 up to the root knows of each node's children
 // before it comes to the node.
-use crate::nodes::kind_in;
 use arena::sound::Judged;
 use arena::sound::judge;
 use arena::stored::node_at;
@@ -11,6 +10,7 @@ use types::arc_ty::Head;
 use types::arc_ty::wide;
 use walks::children::child_at;
 use walks::children::child_count;
+use walks::nodes::kind_in;
 ghost use mathlib.Core.Path.{_≡_};
 ghost use mathlib.Core.List.{map};
 ghost use lib.ListN.{drop};

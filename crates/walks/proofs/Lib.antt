@@ -5,6 +5,7 @@ pub mod Visiting
 pub mod Marks
 pub mod Asking
 pub mod Reaching
+pub mod NodeReads
 pub mod Counting
 pub mod Variables
 pub mod OneSigns

@@ -1,6 +1,7 @@
-// Walks over the nodes of an arena: `children` reads those of a node, `signs` marks the nodes that have a place, by sign,
+// Walks over the nodes of an arena: `children` and `nodes` read a node, `signs` marks the nodes that have a place, by sign,
 // `reach` those that are reachable, whose count is a call open to a host, and `removable` those with places of one sign only.
 pub mod children;
+pub mod nodes;
 pub mod reach;
 pub mod removable;
 pub mod signs;

@@ -1,4 +1,4 @@
--- What the questions read of a node, in any arena that memory holds.
+-- What is read of a node, in any arena that memory holds.
 use Prim.Native.Nat.{ℕ, _<_}
 use mathlib.Core.Path.{_≡_}
 use mathlib.Core.Bool.{Bool, true, _||_}

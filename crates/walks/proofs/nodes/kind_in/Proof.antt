@@ -1,8 +1,8 @@
 -- No words, no head: the kind of 0.
-use Rattle.questions.proofs.NodeReads.{no-head}
+use Rattle.walks.proofs.NodeReads.{no-head}
 use borrow.Author.Needs.{needs}
-use Rattle.questions.proofs.nodes.kind_in.Statement.{statement}
-use Rattle.questions.proofs.nodes.kind_in.Tie as tie
+use Rattle.walks.proofs.nodes.kind_in.Statement.{statement}
+use Rattle.walks.proofs.nodes.kind_in.Tie as tie
 
 returns : tie.Need-returns
 returns c = search no-head

@@ -1,14 +1,14 @@
-// What the questions read of a node.
+// What is read of a node: its kind, and the first child of a lambda or a named type.
+use crate::children::child_at;
 use arena::stored::node_at;
 use types::Counters;
 use types::arc_ty::Head;
 use types::arc_ty::wide;
-use walks::children::child_at;
 ghost use mathlib.Core.Path.{_≡_};
 ghost use lib.ListN.{getD};
 ghost use Rattle.words.specs.Words.{head-kind};
 ghost use Rattle.arena.specs.Stored.{InRange};
-ghost use Rattle.questions.specs.Nodes.{KindAt, ParentAt, FirstChild};
+ghost use Rattle.walks.specs.Nodes.{KindAt, ParentAt, FirstChild};
 
 // The kind in the head of a node's words.
 pub fn kind_in(node: &[u32]) -> u32

@@ -1,8 +1,8 @@
 -- The head of a formed node has the node's kind.
-use Rattle.questions.proofs.NodeReads.{kind-read}
+use Rattle.walks.proofs.NodeReads.{kind-read}
 use borrow.Author.Needs.{needs}
-use Rattle.questions.proofs.nodes.kind_at.Statement.{statement}
-use Rattle.questions.proofs.nodes.kind_at.Tie as tie
+use Rattle.walks.proofs.nodes.kind_at.Statement.{statement}
+use Rattle.walks.proofs.nodes.kind_at.Tie as tie
 
 node-at-requires : tie.Need-node-at-requires
 node-at-requires c κs = search needs

@@ -19,7 +19,7 @@ use Rattle.types.proofs.Nodes.{encode-kind, length-child-words, formed-parts}
 use Rattle.types.proofs.Faults.{children-encode}
 use Rattle.types.proofs.Sound.{at-formed, child-lower}
 use Rattle.arena.specs.Stored.{InRange, NodeAt}
-use Rattle.questions.specs.Nodes.{KindAt, ParentAt, FirstChild}
+use Rattle.walks.specs.Nodes.{KindAt, ParentAt, FirstChild}
 
 pub no-head : (ws : List ℕ) → length ws ≡ 0 → 0 ≡ head-kind (getD ws 0 0)
 unfolding head-kind

@@ -1,8 +1,8 @@
 -- A lambda has two children, and a named type one.
-use Rattle.questions.proofs.NodeReads.{parent-here, child-there, child-read}
+use Rattle.walks.proofs.NodeReads.{parent-here, child-there, child-read}
 use borrow.Author.Needs.{needs}
-use Rattle.questions.proofs.nodes.first_child.Statement.{statement}
-use Rattle.questions.proofs.nodes.first_child.Tie as tie
+use Rattle.walks.proofs.nodes.first_child.Statement.{statement}
+use Rattle.walks.proofs.nodes.first_child.Tie as tie
 
 node-at-requires : tie.Need-node-at-requires
 node-at-requires c κs = search parent-here
