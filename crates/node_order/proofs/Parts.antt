@@ -1,14 +1,14 @@
 -- Two nodes are compared part after part: each decides where those before leave it open.
 use Prim.Native.Nat.{ℕ}
 use mathlib.Core.Path.{_≡_, refl, sym, ap, ap₂, _∙_}
-use mathlib.Core.Bool.{Bool}
+use mathlib.Core.Bool.{Bool, true, false}
 use mathlib.Core.List.{List, [], _∷_, map}
 use Rattle.words.specs.Words.{bit, head-kind, head-open, field-name, child}
 use Rattle.types.specs.Order.{order, lexicographic, then}
 use Rattle.types.specs.declared.Ordering.{Ordering}
 use Rattle.types.specs.declared.Ordering.the-variants.{Equal}
 use Rattle.node_order.specs.NodeOrder.{keys-order, entry-order}
-use Rattle.node_order.specs.WordsOrder.{entry-of, field-order, optional-order, part-keys}
+use Rattle.node_order.specs.WordsOrder.{entry-of, field-order, item-order, optional-order, part-keys}
 use Rattle.node_order.proofs.Answers.{Unequal, told, passed}
 
 -- ---- a field by its name, then its child
@@ -22,6 +22,13 @@ module _ (v w : ℕ) {m n : ℕ} {o : Ordering} (p : m ≡ field-name v) (q : n 
 
   pub field-last : {k l : ℕ} {r : Ordering} → o ≡ Equal → k ≡ child v → l ≡ child w → r ≡ order k l → r ≡ field-order v w
   field-last f s t g = g ∙ ap₂ order s t ∙ sym (passed _ field-then f)
+
+-- ---- a word of a list by the flag
+pub item-field : (v w : ℕ) {b : Bool} {o : Ordering} → b ≡ true → o ≡ field-order v w → o ≡ item-order b v w
+item-field v w p e = rw p e
+
+pub item-number : (v w : ℕ) {b : Bool} {o : Ordering} → b ≡ false → o ≡ order v w → o ≡ item-order b v w
+item-number v w p e = rw p e
 
 -- ---- a node by its kind, its fields, its other words, whether it is open, its optional names
 lexicographic-fields : (e f : List ℕ) → lexicographic field-order e f ≡ lexicographic entry-order (map entry-of e) (map entry-of f)

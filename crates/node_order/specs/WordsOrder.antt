@@ -21,6 +21,11 @@ unfoldable pub field-order : ℕ → ℕ → Ordering
 unfolding by entry-order field-name child
 field-order = by entry-of entry-order
 
+-- words of a list by whether they are field words; others stand as numbers do
+abbrev pub item-order : Bool → ℕ → ℕ → Ordering
+item-order true = field-order
+item-order false = order
+
 -- the names of the optional ones among field words
 unfoldable pub optional-in : List ℕ → List ℕ
 unfolding optional-names field-optional field-name

@@ -11,7 +11,7 @@ ghost use lib.ListN.{getD, drop};
 ghost use Rattle.words.specs.Words.{bit};
 ghost use Rattle.types.specs.Order.{order, lexicographic};
 ghost use Rattle.node_order.specs.NodeOrder.{keys-order};
-ghost use Rattle.node_order.specs.WordsOrder.{field-order, FieldCount, optional-order, NextOptional, part-keys, body-keys, words-order};
+ghost use Rattle.node_order.specs.WordsOrder.{field-order, item-order, FieldCount, optional-order, NextOptional, part-keys, body-keys, words-order};
 
 fn number_order(m: usize, n: usize) -> Ordering
     ensures { λ r. ⌜ r ≡ order m n ⌝ }
@@ -57,37 +57,26 @@ fn field_order(v: u32, w: u32) -> Ordering
     word_order(child(v), child(w))
 }
 
-// Two lists of words, by the first that differs.
-fn numbers_order(s: &[u32], t: &[u32]) -> Ordering
-    ensures { λ r. ⌜ r ≡ lexicographic order (now (s .entry)) (now (t .entry)) ⌝ }
+// Two words of a list, as fields or as numbers.
+fn item_order(v: u32, w: u32, fields: bool) -> Ordering
+    ensures { λ r. ⌜ r ≡ item-order fields v w ⌝ }
 {
-    let mut i = 0;
-    while i < s.len() {
-        if i >= t.len() {
-            return Ordering::Greater;
-        }
-        let here = word_order(s[i], t[i]);
-        let Ordering::Equal = here else {
-            return here;
-        };
-        i += 1;
+    if fields {
+        return field_order(v, w);
     }
-    if i < t.len() {
-        return Ordering::Less;
-    }
-    Ordering::Equal
+    word_order(v, w)
 }
 
-// Two lists of field words, by the first that differs in more than its optional bit.
-fn fields_order(e: &[u32], f: &[u32]) -> Ordering
-    ensures { λ r. ⌜ r ≡ lexicographic field-order (now (e .entry)) (now (f .entry)) ⌝ }
+// Two lists of words, by the first that differs; where they are fields, in more than its optional bit.
+fn list_order(e: &[u32], f: &[u32], fields: bool) -> Ordering
+    ensures { λ r. ⌜ r ≡ lexicographic (item-order fields) (now (e .entry)) (now (f .entry)) ⌝ }
 {
     let mut i = 0;
     while i < e.len() {
         if i >= f.len() {
             return Ordering::Greater;
         }
-        let here = field_order(e[i], f[i]);
+        let here = item_order(e[i], f[i], fields);
         let Ordering::Equal = here else {
             return here;
         };
@@ -184,11 +173,11 @@ fn parts_order(g: Head, e: &[u32], s: &[u32], h: Head, f: &[u32], t: &[u32]) -> 
     let Ordering::Equal = kinds else {
         return kinds;
     };
-    let fields = fields_order(e, f);
+    let fields = list_order(e, f, true);
     let Ordering::Equal = fields else {
         return fields;
     };
-    let others = numbers_order(s, t);
+    let others = list_order(s, t, false);
     let Ordering::Equal = others else {
         return others;
     };

@@ -19,8 +19,8 @@ enum-told c = search needs
 returns : tie.Need-returns
 returns c = search told-kind
 
-fields-order-requires : tie.Need-fields-order-requires
-fields-order-requires c κs = search needs
+list-order-requires : tie.Need-list-order-requires
+list-order-requires c κs = search needs
 
 enum-told-2 : tie.Need-enum-told-2
 enum-told-2 c = search needs
@@ -28,8 +28,8 @@ enum-told-2 c = search needs
 returns-2 : tie.Need-returns-2
 returns-2 c = search told-fields
 
-numbers-order-requires : tie.Need-numbers-order-requires
-numbers-order-requires c κs = search needs
+list-order-requires-2 : tie.Need-list-order-requires-2
+list-order-requires-2 c κs = search needs
 
 enum-told-3 : tie.Need-enum-told-3
 enum-told-3 c = search needs
@@ -67,10 +67,10 @@ parts-order-spec =
     word-order-requires
     enum-told
     returns
-    fields-order-requires
+    list-order-requires
     enum-told-2
     returns-2
-    numbers-order-requires
+    list-order-requires-2
     enum-told-3
     returns-3
     opened-requires
