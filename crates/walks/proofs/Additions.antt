@@ -14,14 +14,14 @@ use Rattle.walks.specs.Signs.{side, sign-of, turned, flag-after, Room, A
 
 -- ---- a number more in one set
 module _ {x y : List ℕ} {n : ℕ} (P : Put x n y) where
-  put-kept : (u : ℕ) → has x u ≡ true → has y u ≡ true
+  pub put-kept : (u : ℕ) → has x u ≡ true → has y u ≡ true
   put-kept u h = go (ℕ-discrete u n)
     where
       go : Dec (u ≡ n) → has y u ≡ true
       go (yes e) = ap (has y) e ∙ P .new
       go (no f) = P .old u f ∙ h
 
-  put-only : (u : ℕ) → has y u ≡ true → (has x u ≡ true) ⊎ (u ≡ n)
+  pub put-only : (u : ℕ) → has y u ≡ true → (has x u ≡ true) ⊎ (u ≡ n)
   put-only u h = go (ℕ-discrete u n)
     where
       go : Dec (u ≡ n) → (has x u ≡ true) ⊎ (u ≡ n)

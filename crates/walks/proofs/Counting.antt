@@ -22,11 +22,11 @@ use Rattle.walks.specs.Asked.{Says}
 use Rattle.walks.specs.Reach.{reaches, reach-count, ReachIn}
 use Rattle.walks.proofs.Reaching.{or-right, reaches-place, place-reaches}
 
-or-cases : (b c : Bool) → (b || c) ≡ true → (b ≡ true) ⊎ (c ≡ true)
+pub or-cases : (b c : Bool) → (b || c) ≡ true → (b ≡ true) ⊎ (c ≡ true)
 or-cases true c e = inl refl
 or-cases false c e = inr e
 
-or-left : (b c : Bool) → b ≡ true → (b || c) ≡ true
+pub or-left : (b c : Bool) → b ≡ true → (b || c) ≡ true
 or-left b c e = rw e
 
 -- ---- the union of the two sets

@@ -1,0 +1,2 @@
+pub mod FreeVars
+pub mod Collect
