@@ -6,8 +6,10 @@ use Rattle.types.specs.Tyvar.{tyvar-name}
 use Rattle.words.specs.Words.{head-word}
 use Rattle.types.specs.Node.{head-of, child-words, decode}
 use Rattle.types.specs.Fault.{fault}
+use Rattle.types.specs.Arena.{sound}
 use Rattle.types.specs.Memory.{arena-of}
-use Rattle.worked.specs.Worked.{Case, worked, judged, sheet, held}
+use Rattle.questions.specs.Lambdas.{has-shared-tyvar-across-lambda-params}
+use Rattle.worked.specs.Worked.{Case, worked, judged, sheet, held, shared}
 
 pub worked-so : map (λ (c : Case). c .gives) worked ≡ map (λ (c : Case). c .says) worked
 unfolding tyvar-name
@@ -25,3 +27,7 @@ sheet-held = refl
 pub repeat-refused : held 0x30000001 0 ≡ none
 unfolding arena-of head-of head-word child-words
 repeat-refused = refl
+
+pub shared-so : map (λ (c : Case). c .gives) shared ≡ map (λ (c : Case). c .says) shared
+unfolding sound has-shared-tyvar-across-lambda-params
+shared-so = refl

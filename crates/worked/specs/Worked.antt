@@ -1,16 +1,19 @@
 -- The worked types of document 01 that are to be proved (those with a star), and words for each of its sentences on a node.
 use Prim.Native.Nat.{ℕ}
 use Prim.Native.String.{String}
+use mathlib.Core.Bool.{Bool, true, false}
 use mathlib.Core.List.{List, [], _∷_}
 use mathlib.Core.Option.{Option}
 use lib.ListN.{replicate}
+use Rattle.words.specs.Words.{bit}
 use Rattle.types.specs.Bytes.{bytes}
 use Rattle.types.specs.Out.{number}
 use Rattle.types.specs.Tyvar.{tyvar-name}
-use Rattle.types.specs.Node.{positive, primitive, members, var, form, node, decode}
+use Rattle.types.specs.Node.{positive, field, primitive, lambda, attrset, members, var, form, Node, node, decode}
 use Rattle.types.specs.Fault.{fault}
-use Rattle.types.specs.Arena.{Arena}
+use Rattle.types.specs.Arena.{Arena, sound}
 use Rattle.types.specs.Memory.{arena-of}
+use Rattle.questions.specs.Lambdas.{has-shared-tyvar-across-lambda-params}
 
 -- what the definitions give, and what 01 says
 pub record Case : Type 0 where
@@ -88,3 +91,19 @@ sheet = node (members positive) (0 ∷ 1 ∷ []) ∷ node (form (primitive 2)) [
 -- what eight lent words, four lent starts and counters hold, where these are the words of node 1
 abbrev pub held : ℕ → ℕ → Option Arena
 held h v = arena-of 0 (0x30000001 ∷ 0 ∷ h ∷ v ∷ 0x70000002 ∷ 0 ∷ 1 ∷ 0 ∷ []) (0 ∷ 2 ∷ 4 ∷ 0 ∷ []) (record { nodes = 3; words = 7 })
+
+-- the closed set whose fields are the names 0 and 1 of a table of two, p and q, with these children
+abbrev pair : ℕ → ℕ → Node
+pair p q = node (form (attrset (field false 0 ∷ field false 1 ∷ []) false false)) (p ∷ q ∷ [])
+
+-- F[a, int] and F[a, bool] as nodes 3 and 4, after a, int and bool
+abbrev lambdas : Arena
+lambdas = node (form lambda) (0 ∷ 2 ∷ []) ∷ node (form lambda) (0 ∷ 1 ∷ []) ∷ node (form (primitive 1)) [] ∷ node (form (primitive 2)) [] ∷ node (var 0) [] ∷ []
+
+-- an arena is sound, and two lambdas in the type of its root take the same variable, or not
+abbrev shares : Arena → ℕ → Bool → Case
+shares a root b = record { gives = bit (sound 2 a) ∷ bit (has-shared-tyvar-across-lambda-params a root) ∷ []; says = 1 ∷ bit b ∷ [] }
+
+-- both fields the one lambda, and a lambda each (01, "Worked types")
+abbrev pub shared : List Case
+shared = shares (pair 3 3 ∷ lambdas) 5 false ∷ shares (pair 3 4 ∷ lambdas) 5 true ∷ []
