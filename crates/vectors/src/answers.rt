@@ -14,9 +14,11 @@ use arena::Compared;
 use arena::added::Interned;
 use names::Table;
 use names::check_names;
+use questions::lambdas::has_shared_tyvar_across_lambda_params;
 use questions::named::Unwrapped;
 use questions::named::unwrap_named;
 use questions::vars::Asked;
+use questions::vars::contains_bare_tyvar;
 use questions::vars::has_type_vars;
 use questions::vars::needs_var_normalization;
 use types::Counters;
@@ -272,6 +274,23 @@ fn unwrapped(used: usize, out: &mut [u8], held: usize, r: Unwrapped) -> Step {
     }
 }
 
+// The answer to the question that has this number.
+fn question(
+    op: usize,
+    table: &[u8],
+    words: &[u32],
+    starts: &[u32],
+    c: Counters,
+    root: u32,
+) -> Asked {
+    match op {
+        11 => needs_var_normalization(table, words, starts, c, root),
+        13 => has_type_vars(table, words, starts, c, root),
+        14 => contains_bare_tyvar(table, words, starts, c, root),
+        _ => has_shared_tyvar_across_lambda_params(table, words, starts, c, root),
+    }
+}
+
 // The answer of the call that has this number.
 fn ask(
     op: usize,
@@ -285,25 +304,14 @@ fn ask(
     held: usize,
 ) -> Step {
     match op {
-        11 => asked(
-            used,
-            out,
-            held,
-            needs_var_normalization(table, words, starts, c, root),
-        ),
-        13 => asked(
-            used,
-            out,
-            held,
-            has_type_vars(table, words, starts, c, root),
-        ),
         16 => unwrapped(used, out, held, unwrap_named(table, words, starts, c, root)),
-        _ => counted(
+        20 => counted(
             used,
             out,
             held,
             count_reachable(table, words, starts, c, root),
         ),
+        _ => asked(used, out, held, question(op, table, words, starts, c, root)),
     }
 }
 
