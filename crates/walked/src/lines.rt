@@ -1,0 +1,80 @@
+// A line for each question about a type: the type, the call, and what it answered.
+use questions::lambdas::has_shared_tyvar_across_lambda_params;
+use questions::named::Unwrapped;
+use questions::named::unwrap_named;
+use questions::vars::Asked;
+use questions::vars::contains_bare_tyvar;
+use questions::vars::has_type_vars;
+use questions::vars::needs_var_normalization;
+use types::Counters;
+use types::arc_ty::wide;
+use walks::reach::Counted;
+use walks::reach::count_reachable;
+
+fn say(text: &[u8]) {
+    io::write_all(1, text);
+}
+
+fn label(shape: &[u8], call: &[u8]) {
+    say(shape);
+    say(b", ");
+    say(call);
+    say(b": ");
+}
+
+fn number(before: &[u8], n: usize) {
+    say(before);
+    io::print_decimal(1, n as u64);
+    say(b"\n");
+}
+
+fn refused(n: u32) {
+    number(b"refused ", wide(n));
+}
+
+fn yes(so: bool) {
+    if so {
+        say(b"yes\n");
+    } else {
+        say(b"no\n");
+    }
+}
+
+fn asked(shape: &[u8], call: &[u8], r: Asked) {
+    label(shape, call);
+    match r {
+        Asked::Is(so) => yes(so),
+        Asked::Refused(n) => refused(n),
+    }
+}
+
+fn unwrapped(shape: &[u8], r: Unwrapped) {
+    label(shape, b"unwrap_named");
+    match r {
+        Unwrapped::Node(n) => number(b"ok ", n),
+        Unwrapped::Refused(n) => refused(n),
+    }
+}
+
+fn counted(shape: &[u8], r: Counted) {
+    label(shape, b"count_reachable");
+    match r {
+        Counted::Nodes(n) => number(b"ok ", wide(n)),
+        Counted::Refused(n) => refused(n),
+    }
+}
+
+// All of them, under the names p and q.
+pub fn ask_all(shape: &[u8], words: &[u32], starts: &[u32], c: Counters, root: u32) {
+    let table = [1, b'p', 1, b'q'];
+    let r = has_type_vars(&table, words, starts, c, root);
+    asked(shape, b"has_type_vars", r);
+    let r = contains_bare_tyvar(&table, words, starts, c, root);
+    asked(shape, b"contains_bare_tyvar", r);
+    let r = has_shared_tyvar_across_lambda_params(&table, words, starts, c, root);
+    asked(shape, b"has_shared_tyvar_across_lambda_params", r);
+    let r = needs_var_normalization(&table, words, starts, c, root);
+    asked(shape, b"needs_var_normalization", r);
+    unwrapped(shape, unwrap_named(&table, words, starts, c, root));
+    counted(shape, count_reachable(&table, words, starts, c, root));
+}
