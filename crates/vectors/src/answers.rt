@@ -9,9 +9,13 @@ use crate::input::short;
 use crate::input::word;
 use crate::output::put_decimal;
 use crate::output::put_lent;
+use crate::output::put_list;
 use crate::output::put_text;
 use arena::Compared;
 use arena::added::Interned;
+use free_vars::Answer;
+use free_vars::FreeVars;
+use free_vars::free_type_vars;
 use names::Table;
 use names::check_names;
 use questions::lambdas::has_shared_tyvar_across_lambda_params;
@@ -58,9 +62,13 @@ fn refusal(used: usize, out: &mut [u8], held: usize, number: u32) -> Step {
     done(used, out, held)
 }
 
-fn accepted(used: usize, out: &mut [u8], held: usize, number: usize) -> Step {
+fn ok(out: &mut [u8], held: usize, number: usize) -> usize {
     let held = put_text(out, held, b"ok ");
-    let held = put_decimal(out, held, number);
+    put_decimal(out, held, number)
+}
+
+fn accepted(used: usize, out: &mut [u8], held: usize, number: usize) -> Step {
+    let held = ok(out, held, number);
     done(used, out, held)
 }
 
@@ -143,8 +151,7 @@ fn lend_host(s: &[u8], words: &mut [u32], starts: &mut [u32]) -> Host {
 fn interned(out: &mut [u8], held: usize, r: Interned) -> usize {
     match r {
         Interned::Node(number, c) => {
-            let held = put_text(out, held, b"ok ");
-            let held = put_decimal(out, held, wide(number));
+            let held = ok(out, held, wide(number));
             let held = put_text(out, held, b" ");
             let held = put_decimal(out, held, c.nodes);
             let held = put_text(out, held, b" ");
@@ -274,6 +281,25 @@ fn unwrapped(used: usize, out: &mut [u8], held: usize, r: Unwrapped) -> Step {
     }
 }
 
+// How many variables there are, or the number of a refusal.
+fn answered(out: &mut [u8], held: usize, answer: Answer, count: usize) -> usize {
+    match answer {
+        Answer::Listed => ok(out, held, count),
+        Answer::Refused(number) => refused(out, held, number),
+    }
+}
+
+// What `free_type_vars` answered, and its list.
+fn listed(used: usize, out: &mut [u8], held: usize, r: FreeVars) -> Step {
+    let answer = r.answer;
+    let list = r.list;
+    let vars = list.vars;
+    let count = list.count;
+    let held = answered(out, held, answer, count);
+    let held = put_list(out, held, &vars, count);
+    done(used, out, held)
+}
+
 // The answer to the question that has this number.
 fn question(
     op: usize,
@@ -304,6 +330,12 @@ fn ask(
     held: usize,
 ) -> Step {
     match op {
+        9 => listed(
+            used,
+            out,
+            held,
+            free_type_vars(table, words, starts, c, root),
+        ),
         16 => unwrapped(used, out, held, unwrap_named(table, words, starts, c, root)),
         20 => counted(
             used,

@@ -28,7 +28,7 @@ fn answer(
         3 => answers::compare(s, words, starts, out, held),
         6 => answers::table(s, out, held),
         7 => answers::name_order(s, out, held),
-        11 | 13 | 14 | 15 | 16 | 20 => answers::on_type(s, words, starts, out, held),
+        9 | 11 | 13 | 14 | 15 | 16 | 20 => answers::on_type(s, words, starts, out, held),
         _ => Step::Cut,
     }
 }

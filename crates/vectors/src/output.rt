@@ -74,3 +74,12 @@ pub fn put_lent(out: &mut [u8], held: usize, letter: u8, words: &[u32]) -> usize
     let held = put(out, held, letter);
     put_words(out, held, words, without_zeros(words))
 }
+
+// The words that are counted. One behind them that isn't zero is put too, and shows that the list is wrong.
+pub fn put_list(out: &mut [u8], held: usize, words: &[u32], count: usize) -> usize {
+    let last = without_zeros(words);
+    if count < last {
+        return put_words(out, held, words, last);
+    }
+    put_words(out, held, words, count)
+}

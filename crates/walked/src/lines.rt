@@ -1,4 +1,8 @@
 // A line for each question about a type: the type, the call, and what it answered.
+use free_vars::Answer;
+use free_vars::FreeVars;
+use free_vars::VarList;
+use free_vars::free_type_vars;
 use questions::lambdas::has_shared_tyvar_across_lambda_params;
 use questions::named::Unwrapped;
 use questions::named::unwrap_named;
@@ -64,6 +68,41 @@ fn counted(shape: &[u8], r: Counted) {
     }
 }
 
+fn index(n: u32) {
+    say(b" ");
+    io::print_hex(1, n as u64, 1);
+}
+
+fn indexes(vars: &[u32], count: usize) {
+    let mut i = 0;
+    while i < vars.len() {
+        if i >= count {
+            return;
+        }
+        index(vars[i]);
+        i += 1;
+    }
+}
+
+// How many variables there are, and their indexes.
+fn variables(list: VarList) {
+    let vars = list.vars;
+    let count = list.count;
+    say(b"ok ");
+    io::print_decimal(1, count as u64);
+    indexes(&vars, count);
+    say(b"\n");
+}
+
+fn listed(shape: &[u8], r: FreeVars) {
+    label(shape, b"free_type_vars");
+    let answer = r.answer;
+    match answer {
+        Answer::Listed => variables(r.list),
+        Answer::Refused(n) => refused(n),
+    }
+}
+
 // All of them, under the names p and q.
 pub fn ask_all(shape: &[u8], words: &[u32], starts: &[u32], c: Counters, root: u32) {
     let table = [1, b'p', 1, b'q'];
@@ -77,4 +116,5 @@ pub fn ask_all(shape: &[u8], words: &[u32], starts: &[u32], c: Counters, root: u
     asked(shape, b"needs_var_normalization", r);
     unwrapped(shape, unwrap_named(&table, words, starts, c, root));
     counted(shape, count_reachable(&table, words, starts, c, root));
+    listed(shape, free_type_vars(&table, words, starts, c, root));
 }

@@ -13,13 +13,14 @@ use reference::node::{Field, Node};
 use reference::{NODES, WORDS};
 
 /// The calls with their numbers among the operations.
-const CALLS: [(&str, u8); 6] = [
+const CALLS: [(&str, u8); 7] = [
     ("has_type_vars", 13),
     ("contains_bare_tyvar", 14),
     ("has_shared_tyvar_across_lambda_params", 15),
     ("needs_var_normalization", 11),
     ("unwrap_named", 16),
     ("count_reachable", 20),
+    ("free_type_vars", 9),
 ];
 
 const A: Node = Node::TyVar(0);
