@@ -16,6 +16,14 @@ pub struct Answer {
     pub left_out: bool,
 }
 
+impl Answer {
+    /// The line up to the memory that a call left.
+    pub fn without_memory(self) -> String {
+        let end = self.line.find(" W").unwrap_or(self.line.len());
+        self.line[..end].into()
+    }
+}
+
 pub fn answer(case: &Case) -> Answer {
     let mut left_out = false;
     let left = &mut left_out;

@@ -9,7 +9,7 @@ use lib.ListN.{length, getD, drop, replicate, length-replicate, length-map, drop
 use lib.Seq.{drop-cons}
 use lib.Dec.{eqb}
 use borrow.Author.Tests.{eq-eqb, ne-eqb}
-use mir.Syntax.{w32, w64}
+use mir.Syntax.{w64}
 use mir.Val.{Fits}
 use Rattle.words.specs.Words.{head-kind}
 use Rattle.types.specs.Node.{Tag, tag, kind, children}
@@ -98,13 +98,6 @@ at-node skip f table a H n l {ws} N h =
 or-none : (b : Bool) {c : Bool} → c ≡ false → (b || c) ≡ b
 or-none true e = refl
 or-none false e = e
-
-module _ {s : List ℕ} {n : ℕ} (R : Row s n) where
-  pub row-small : n < 4096
-  row-small = R .inside
-
-  pub row-fits : Fits w32 n
-  row-fits = omega (arith, R .inside)
 
 module _ {b d : Bool} {n : ℕ} {s : List ℕ} (e : d ≡ b) where
   pub learned : d ≡ true → {t : List ℕ} → Put s n t → Learned b n s t

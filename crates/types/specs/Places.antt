@@ -37,6 +37,12 @@ pub record Reachable (a : Arena) (root u : ℕ) : Type 0 where
   pub sign : Polarity
   pub place : Place a root positive u sign
 
+-- in the type of node n, at the sign s, the variable v has a place of the sign p
+pub record Has (a : Arena) (n : ℕ) (s : Polarity) (v : ℕ) (p : Polarity) : Type 0 where
+  pub number : ℕ
+  pub place : Place a n s number p
+  pub is : tag (at a number) ≡ var v
+
 -- "polar form" is 01's term: unions have only positive places, and intersections only negative ones
 pub record Polar (a : Arena) (root : ℕ) : Type 0 where
   pub sides : (u : ℕ) (p k : Polarity) → Place a root positive u p → tag (at a u) ≡ members k → p ≡ k

@@ -25,6 +25,8 @@ use questions::vars::Asked;
 use questions::vars::contains_bare_tyvar;
 use questions::vars::has_type_vars;
 use questions::vars::needs_var_normalization;
+use simplify::Simplified;
+use simplify::simplify;
 use types::Counters;
 use types::Ordering;
 use types::arc_ty::tyvar_name;
@@ -147,15 +149,29 @@ fn lend_host(s: &[u8], words: &mut [u32], starts: &mut [u32]) -> Host {
     }
 }
 
+// A further number of an answer.
+fn and(out: &mut [u8], held: usize, number: usize) -> usize {
+    let held = put_text(out, held, b" ");
+    put_decimal(out, held, number)
+}
+
+fn counters(out: &mut [u8], held: usize, c: Counters) -> usize {
+    let held = and(out, held, c.nodes);
+    and(out, held, c.words)
+}
+
+// The memory as a call leaves it.
+fn memory(out: &mut [u8], held: usize, words: &[u32], starts: &[u32]) -> usize {
+    let held = put_lent(out, held, b'W', words);
+    put_lent(out, held, b'S', starts)
+}
+
 // What `intern` answered.
 fn interned(out: &mut [u8], held: usize, r: Interned) -> usize {
     match r {
         Interned::Node(number, c) => {
             let held = ok(out, held, wide(number));
-            let held = put_text(out, held, b" ");
-            let held = put_decimal(out, held, c.nodes);
-            let held = put_text(out, held, b" ");
-            put_decimal(out, held, c.words)
+            counters(out, held, c)
         }
         Interned::Refused(number) => refused(out, held, number),
     }
@@ -176,8 +192,7 @@ fn intern_lent(
     load(s, from, node);
     let r = arena::intern(part(s, 3, table), words, starts, c, node);
     let held = interned(out, held, r);
-    let held = put_lent(out, held, b'W', words);
-    put_lent(out, held, b'S', starts)
+    memory(out, held, words, starts)
 }
 
 // A node's number, and the memory after.
@@ -317,12 +332,41 @@ fn question(
     }
 }
 
+// What `simplify` answered.
+fn simplified(out: &mut [u8], held: usize, r: Simplified) -> usize {
+    match r {
+        Simplified::Type(root, passes, c) => {
+            let held = ok(out, held, wide(root));
+            let held = and(out, held, wide(passes));
+            counters(out, held, c)
+        }
+        Simplified::Refused(number) => refused(out, held, number),
+    }
+}
+
+// What a type becomes, and the memory after.
+fn simplify_lent(
+    table: &[u8],
+    words: &mut [u32],
+    starts: &mut [u32],
+    c: Counters,
+    root: u32,
+    used: usize,
+    out: &mut [u8],
+    held: usize,
+) -> Step {
+    let r = simplify(table, words, starts, c, root);
+    let held = simplified(out, held, r);
+    let held = memory(out, held, words, starts);
+    done(used, out, held)
+}
+
 // The answer of the call that has this number.
 fn ask(
     op: usize,
     table: &[u8],
-    words: &[u32],
-    starts: &[u32],
+    words: &mut [u32],
+    starts: &mut [u32],
     c: Counters,
     root: u32,
     used: usize,
@@ -330,6 +374,7 @@ fn ask(
     held: usize,
 ) -> Step {
     match op {
+        4 => simplify_lent(table, words, starts, c, root, used, out, held),
         9 => listed(
             used,
             out,
@@ -347,7 +392,7 @@ fn ask(
     }
 }
 
-// A call that takes a type, reads, and changes nothing.
+// A call that takes a type.
 pub fn on_type(
     s: &[u8],
     words: &mut [u32],
@@ -367,8 +412,8 @@ pub fn on_type(
     ask(
         byte(s, 0),
         part(s, 3, h.table),
-        &words[0..m],
-        &starts[0..n],
+        &mut words[0..m],
+        &mut starts[0..n],
         c,
         root,
         end,

@@ -11,8 +11,8 @@ pub struct Input {
 // The greatest number; as a place, one past the end of all input.
 pub const MOST: usize = 18446744073709551615;
 
-// No case is longer.
-const LONGEST: usize = 2097152;
+// No case is longer: two hosts that lend as much as a case can say are 1,179,683 bytes.
+const LONGEST: usize = 1310720;
 
 // A sum of places, at most the greatest number.
 pub fn add(a: usize, b: usize) -> usize {

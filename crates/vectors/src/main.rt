@@ -28,7 +28,7 @@ fn answer(
         3 => answers::compare(s, words, starts, out, held),
         6 => answers::table(s, out, held),
         7 => answers::name_order(s, out, held),
-        9 | 11 | 13 | 14 | 15 | 16 | 20 => answers::on_type(s, words, starts, out, held),
+        4 | 9 | 11 | 13 | 14 | 15 | 16 | 20 => answers::on_type(s, words, starts, out, held),
         _ => Step::Cut,
     }
 }
@@ -69,7 +69,7 @@ fn answer_all(
 
 // The buffer's type says its length, which is too long to be counted out in a proof.
 fn answer_from(
-    buf: &mut [u8; 4194304],
+    buf: &mut [u8; 1572864],
     words: &mut [u32],
     starts: &mut [u32],
     node: &mut [u32],
@@ -79,7 +79,7 @@ fn answer_from(
 }
 
 fn main() {
-    let mut buf = [0u8; 4194304];
+    let mut buf = [0u8; 1572864];
     let mut words = [0u32; 65535];
     let mut starts = [0u32; 65535];
     let mut node = [0u32; 65535];

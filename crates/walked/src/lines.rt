@@ -1,4 +1,4 @@
-// A line for each question about a type: the type, the call, and what it answered.
+// A line for each call on a type: the type, the call, and what it answered.
 use free_vars::Answer;
 use free_vars::FreeVars;
 use free_vars::VarList;
@@ -10,6 +10,8 @@ use questions::vars::Asked;
 use questions::vars::contains_bare_tyvar;
 use questions::vars::has_type_vars;
 use questions::vars::needs_var_normalization;
+use simplify::Simplified;
+use simplify::simplify;
 use types::Counters;
 use types::arc_ty::wide;
 use walks::reach::Counted;
@@ -103,18 +105,47 @@ fn listed(shape: &[u8], r: FreeVars) {
     }
 }
 
-// All of them, under the names p and q.
-pub fn ask_all(shape: &[u8], words: &[u32], starts: &[u32], c: Counters, root: u32) {
-    let table = [1, b'p', 1, b'q'];
-    let r = has_type_vars(&table, words, starts, c, root);
+fn and(n: usize) {
+    say(b" ");
+    io::print_decimal(1, n as u64);
+}
+
+// The root after, the passes made and the counters.
+fn changed(root: u32, passes: u32, c: Counters) {
+    say(b"ok");
+    and(wide(root));
+    and(wide(passes));
+    and(c.nodes);
+    and(c.words);
+    say(b"\n");
+}
+
+fn simplified(shape: &[u8], r: Simplified) {
+    label(shape, b"simplify");
+    match r {
+        Simplified::Type(root, passes, c) => changed(root, passes, c),
+        Simplified::Refused(n) => refused(n),
+    }
+}
+
+// The questions.
+fn ask(shape: &[u8], table: &[u8], words: &[u32], starts: &[u32], c: Counters, root: u32) {
+    let r = has_type_vars(table, words, starts, c, root);
     asked(shape, b"has_type_vars", r);
-    let r = contains_bare_tyvar(&table, words, starts, c, root);
+    let r = contains_bare_tyvar(table, words, starts, c, root);
     asked(shape, b"contains_bare_tyvar", r);
-    let r = has_shared_tyvar_across_lambda_params(&table, words, starts, c, root);
+    let r = has_shared_tyvar_across_lambda_params(table, words, starts, c, root);
     asked(shape, b"has_shared_tyvar_across_lambda_params", r);
-    let r = needs_var_normalization(&table, words, starts, c, root);
+    let r = needs_var_normalization(table, words, starts, c, root);
     asked(shape, b"needs_var_normalization", r);
-    unwrapped(shape, unwrap_named(&table, words, starts, c, root));
-    counted(shape, count_reachable(&table, words, starts, c, root));
-    listed(shape, free_type_vars(&table, words, starts, c, root));
+    unwrapped(shape, unwrap_named(table, words, starts, c, root));
+    counted(shape, count_reachable(table, words, starts, c, root));
+    listed(shape, free_type_vars(table, words, starts, c, root));
+}
+
+// All calls, under the names p and q; the one that changes memory comes last.
+pub fn ask_all(shape: &[u8], words: &mut [u32], starts: &mut [u32], c: Counters, root: u32) {
+    let table = [1, b'p', 1, b'q'];
+    ask(shape, &table, words, starts, c, root);
+    simplified(shape, simplify(&table, words, starts, c, root));
 }

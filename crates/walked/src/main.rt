@@ -1,4 +1,4 @@
-// Every question about types that are deep, or have a node at very many places, and about document 01's pair of sets. It prints
+// `simplify` and every question, on types that are deep or have a node at very many places, and on document 01's pair of sets. It prints
 // a line a call. What it must print was made by the Rust (compare/reference/src/bin/walked.rs).
 mod lines;
 mod shapes;
@@ -13,14 +13,14 @@ fn chain(shape: &[u8], int: bool, step: Step) {
     let mut words = [0u32; 16384];
     let mut starts = [0u32; 4096];
     let c = put_chain(&mut words, &mut starts, int, step);
-    ask_all(shape, &words, &starts, c, 4095);
+    ask_all(shape, &mut words, &mut starts, c, 4095);
 }
 
 fn pair(shape: &[u8], q: u32) {
     let mut words = [0u32; 16384];
     let mut starts = [0u32; 4096];
     let c = put_pair(&mut words, &mut starts, q);
-    ask_all(shape, &words, &starts, c, 5);
+    ask_all(shape, &mut words, &mut starts, c, 5);
 }
 
 // Each node is both children of the next, so the variable has 2^4095 places.

@@ -7,7 +7,7 @@ use types::attrset::field_word;
 pub enum Step {
     // Its only child is the node before; two kinds in turn.
     Child(u32, u32),
-    // The same with a name.
+    // The same, under the name q.
     Field(u32),
     // Both children are the node before.
     Both(u32),
@@ -41,7 +41,7 @@ fn set(words: &mut [u32], at: usize, value: u32) {
     }
 }
 
-// One more node, in an arena that has room for it.
+// One more node, if there is room for it.
 fn put(words: &mut [u32], starts: &mut [u32], c: Counters, kind: u32, body: &[u32]) -> Counters {
     let n = c.nodes;
     let at = c.words;

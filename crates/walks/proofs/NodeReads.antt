@@ -1,4 +1,4 @@
--- What is read in the words of a node is the node's: its kind, and the first child of a lambda or a named type.
+-- What is read in the words of a node is the node's: its kind, and the first child of a lambda, a named type or `Neg`.
 use Prim.Native.Nat.{ℕ, _<_}
 use mathlib.Core.Path.{_≡_, refl, sym, ap, _∙_, subst}
 use mathlib.Core.Bool.{true, false, _||_}
@@ -43,22 +43,22 @@ module _ {w s : List ℕ} {c : Counters} {n : ℕ} (R : InRange w s c n) where
   }
 
 -- ---- the first child
--- a lambda has two children and a named type one
-least-one : (t : Tag) (cs : List ℕ) → formed (node t cs) ≡ true → (eqb (disc (kind t)) 5 || eqb (disc (kind t)) 9) ≡ true → 0 < length cs
+-- a lambda has two children, a named type and `Neg` one
+least-one : (t : Tag) (cs : List ℕ) → formed (node t cs) ≡ true → (eqb (disc (kind t)) 5 || (eqb (disc (kind t)) 9 || eqb (disc (kind t)) 10)) ≡ true → 0 < length cs
 unfolding body-count
 least-one (members positive) cs e k = absurd (true-false (sym k))
 least-one (members negative) cs e k = absurd (true-false (sym k))
 least-one (bound positive) cs e k = absurd (true-false (sym k))
 least-one (bound negative) cs e k = absurd (true-false (sym k))
 least-one (var v) cs e k = absurd (true-false (sym k))
-least-one neg cs e k = absurd (true-false (sym k))
+least-one neg cs e k = let q : length cs ≡ 1 = sym (length-child-words [] cs) ∙ eqb-true _ 1 (formed-parts neg cs e .counted) in omega (arith, q)
 least-one (form (primitive c)) cs e k = absurd (true-false (sym k))
 least-one (form list) cs e k = absurd (true-false (sym k))
 least-one (form lambda) cs e k = let q : length cs ≡ 2 = sym (length-child-words [] cs) ∙ eqb-true _ 2 (formed-parts (form lambda) cs e .counted) in omega (arith, q)
 least-one (form (attrset fs d o)) cs e k = absurd (true-false (sym k))
 least-one (form (named m)) cs e k = let q : length cs ≡ 1 = sym (length-child-words (field false m ∷ []) cs) ∙ eqb-true _ 1 (formed-parts (form (named m)) cs e .counted) in omega (arith, q)
 
-pub first-there : (x : Node) → formed x ≡ true → (eqb (disc (kind (tag x))) 5 || eqb (disc (kind (tag x))) 9) ≡ true → 0 < length (children x)
+pub first-there : (x : Node) → formed x ≡ true → (eqb (disc (kind (tag x))) 5 || (eqb (disc (kind (tag x))) 9 || eqb (disc (kind (tag x))) 10)) ≡ true → 0 < length (children x)
 first-there (node t cs) = least-one t cs
 
 module _ {w s : List ℕ} {c : Counters} {n : ℕ} (P : ParentAt w s c n) where
@@ -70,7 +70,7 @@ module _ {w s : List ℕ} {c : Counters} {n : ℕ} (P : ParentAt w s c n) where
 
   first : {table : ℕ} {a : Arena} (H : Holds table w s c a) → 0 < length (children (at a n))
   first {table} {a} H =
-      first-there (at a n) (at-formed table a (H .good) n (within H)) (ap (λ (k : ℕ). eqb k 5 || eqb k 9) (sym (P .kind .is table a H)) ∙ P .parent)
+      first-there (at a n) (at-formed table a (H .good) n (within H)) (ap (λ (k : ℕ). eqb k 5 || (eqb k 9 || eqb k 10)) (sym (P .kind .is table a H)) ∙ P .parent)
 
   -- and it has a lower number
   pub first-lower : {table : ℕ} {a : Arena} → Holds table w s c a → getD (children (at a n)) 0 0 < n

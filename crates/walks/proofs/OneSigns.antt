@@ -66,9 +66,9 @@ module _ {w s : List ℕ} {c : Counters} {root : ℕ} (R : InRange w s c root) w
 -- ---- a variable's node
 pub one-signed-removable : (table : ℕ) (a : Arena) → sound table a ≡ true → (root u v : ℕ) → tag (at a u) ≡ var v → OneSigned a root u ↔ Removable a root v
 one-signed-removable table a h root u v e = (
-  λ O. record { sign = O .sign; seen = record { node = u; is = e; place = O .place }; unseen = λ S. O .unplaced (moved S) },
-  λ M. record { sign = M .sign; place = moved (M .seen); unplaced = λ x. M .unseen (record { node = u; is = e; place = x }) },
+  λ O. record { sign = O .sign; seen = record { number = u; is = e; place = O .place }; unseen = λ S. O .unplaced (moved S) },
+  λ M. record { sign = M .sign; place = moved (M .seen); unplaced = λ x. M .unseen (record { number = u; is = e; place = x }) },
 )
   where
     moved : {s : Polarity} → Seen a root v s → Place a root positive u s
-    moved {s} S = subst (λ (n : ℕ). Place a root positive n s) (one-node table a h (S .node) u v (S .is) e) (S .place)
+    moved {s} S = subst (λ (n : ℕ). Place a root positive n s) (one-node table a h (S .number) u v (S .is) e) (S .place)

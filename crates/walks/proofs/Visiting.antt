@@ -19,7 +19,7 @@ use Rattle.types.proofs.Faults.{children-encode}
 use Rattle.types.proofs.Sound.{at-formed}
 use Rattle.types.proofs.Addresses.{start-room}
 use Rattle.bits.specs.Bits.{has}
-use Rattle.arena.specs.Stored.{InRange, NodeAt}
+use Rattle.arena.specs.Stored.{NodeAt}
 use Rattle.walks.specs.Signs.{side, sign-of, turned, flag-after, Rows, WordChild, AddsSome, AddsWords, ChildOf, AddsAll, Visits, Marking}
 use Rattle.walks.proofs.Additions.{flag-sign}
 
@@ -49,9 +49,6 @@ module _ (a : Arena) (n : ℕ) (e : formed (at a n) ≡ true) (flag : Bool) wher
   }
 
 module _ {w s : List ℕ} {c : Counters} {n : ℕ} where
-  pub marking-range : {p q : List ℕ} → Marking w s c n p q → InRange w s c n
-  marking-range M = record { lent = M .lent; inside = M .inside }
-
   pub marking-small : {p q : List ℕ} → Marking w s c n p q → n < 4096
   marking-small M = let H = M .lent .holds in omega (arith, M .inside, start-room H, H .few-starts)
 

@@ -25,13 +25,13 @@ is-var = of-kind kinds.ty-var
 pub record KindAt (w s : List ℕ) (c : Counters) (n r : ℕ) : Type 0 where
   pub is : (table : ℕ) (a : Arena) → Holds table w s c a → r ≡ disc (kind (tag (at a n)))
 
--- memory holds an arena with a lambda or a named type at node n
+-- memory holds an arena with a lambda, a named type or `Neg` at node n
 pub record ParentAt (w s : List ℕ) (c : Counters) (n : ℕ) : Type 0 where
   pub lent : Lent w s c
   pub inside : n < c .nodes
   pub number : ℕ
   pub kind : KindAt w s c n number
-  pub parent : (eqb number (disc kinds.lambda) || eqb number (disc kinds.named)) ≡ true
+  pub parent : (eqb number (disc kinds.lambda) || (eqb number (disc kinds.named) || eqb number (disc kinds.neg))) ≡ true
 
 -- r is the first child of node n
 pub record FirstChild (w s : List ℕ) (c : Counters) (n r : ℕ) : Type 0 where

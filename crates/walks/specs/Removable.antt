@@ -3,18 +3,16 @@ use Prim.Native.Nat.{ℕ}
 use mathlib.Core.Path.{_≡_}
 use mathlib.Core.Bool.{true}
 use mathlib.Core.List.{List}
-use Rattle.types.specs.Node.{Polarity, positive, var, tag}
-use Rattle.types.specs.Arena.{Arena, at}
-use Rattle.types.specs.Places.{opposite, Place}
+use Rattle.types.specs.Node.{Polarity, positive}
+use Rattle.types.specs.Arena.{Arena}
+use Rattle.types.specs.Places.{opposite, Place, Has}
 use Rattle.types.specs.Memory.{Holds}
 use Rattle.types.specs.declared.Counters.{Counters}
 use Rattle.bits.specs.Bits.{has}
 
--- the variable v is seen with the sign s: a node of it has a place of that sign (01, "Places and passes")
-pub record Seen (a : Arena) (root v : ℕ) (s : Polarity) : Type 0 where
-  pub node : ℕ
-  pub is : tag (at a node) ≡ var v
-  pub place : Place a root positive node s
+-- the variable v is seen with the sign s: it has a place of that sign in the type of the root, which is positive (01, "Places and passes")
+abbrev pub Seen : Arena → ℕ → ℕ → Polarity → Type 0
+Seen a root v s = Has a root positive v s
 
 -- the variable v is seen with one sign and not with the other; one with no place is seen with neither (the Rust's `polar_only_vars`)
 pub record Removable (a : Arena) (root v : ℕ) : Type 0 where

@@ -1,4 +1,4 @@
-// What is read of a node: its kind, and the first child of a lambda or a named type.
+// What is read of a node: its kind, and the first child of a lambda, a named type or `Neg`.
 use crate::children::child_at;
 use arena::stored::node_at;
 use types::Counters;
@@ -29,7 +29,7 @@ pub fn kind_at(words: &[u32], starts: &[u32], c: Counters, n: usize) -> u32
     kind_in(node_at(words, starts, c, n))
 }
 
-// The first child of node n, which is a lambda or a named type.
+// The first child of node n, which is a lambda, a named type or `Neg`.
 pub fn first_child(words: &[u32], starts: &[u32], c: Counters, n: usize) -> usize
     requires { ⌜ ParentAt (now words) (now starts) c n ⌝ }
     ensures { λ r. ⌜ FirstChild (now (words .entry)) (now (starts .entry)) c n r ⌝ }

@@ -9,7 +9,9 @@ use Rattle.types.specs.Fault.{fault}
 use Rattle.types.specs.Arena.{sound}
 use Rattle.types.specs.Memory.{arena-of}
 use Rattle.questions.specs.Lambdas.{has-shared-tyvar-across-lambda-params}
-use Rattle.worked.specs.Worked.{Case, worked, judged, sheet, held, shared}
+use Rattle.worked.specs.Worked.{Case, worked, judged, sheet, held, shared, simplified}
+use Rattle.simplification.specs.Worked as simplify
+use Rattle.simplification.proofs.Evaluated.{worked-so as simplify-so}
 
 pub worked-so : map (λ (c : Case). c .gives) worked ≡ map (λ (c : Case). c .says) worked
 unfolding tyvar-name
@@ -31,3 +33,6 @@ repeat-refused = refl
 pub shared-so : map (λ (c : Case). c .gives) shared ≡ map (λ (c : Case). c .says) shared
 unfolding sound has-shared-tyvar-across-lambda-params
 shared-so = refl
+
+pub simplified-so : map (λ (c : simplify.Case). c .gives) simplified ≡ map (λ (c : simplify.Case). c .says) simplified
+simplified-so = simplify-so

@@ -14,6 +14,7 @@ use Rattle.types.specs.Fault.{fault}
 use Rattle.types.specs.Arena.{Arena, sound}
 use Rattle.types.specs.Memory.{arena-of}
 use Rattle.questions.specs.Lambdas.{has-shared-tyvar-across-lambda-params}
+use Rattle.simplification.specs.Worked as simplify
 
 -- what the definitions give, and what 01 says
 pub record Case : Type 0 where
@@ -107,3 +108,7 @@ shares a root b = record { gives = bit (sound 2 a) ∷ bit (has-shared-tyvar-acr
 -- both fields the one lambda, and a lambda each (01, "Worked types")
 abbrev pub shared : List Case
 shared = shares (pair 3 3 ∷ lambdas) 5 false ∷ shares (pair 3 4 ∷ lambdas) 5 true ∷ []
+
+-- what `simplify` makes of 01's types, both ladders among them: the root's node and the passes made. The cases stand with its definitions, whose must-fail edits need them
+abbrev pub simplified : List simplify.Case
+simplified = simplify.worked

@@ -1,6 +1,6 @@
-//! What the program `walked` must print: the types that its lines name are built here as nodes, each question is put as a case,
-//! and its answer is the one that the reference gives to `vectors`, so the unchanged Rust's. Nothing of our program is run for
-//! it. The stored lines were made, and are made anew when a type or a question joins, by
+//! What the program `walked` must print: the types that its lines name are built here as nodes, each call is put as a case, and
+//! its answer is the one that the reference gives to `vectors`, so the unchanged Rust's; where a type can't be unfolded,
+//! `simplify` is the second run's. Nothing of our program is run for it. The stored lines were made, and are made anew when a type or a call joins, by
 //!
 //!     compare/target/release/walked >crates/walked/stdout
 //!
@@ -13,7 +13,7 @@ use reference::node::{Field, Node};
 use reference::{NODES, WORDS};
 
 /// The calls with their numbers among the operations.
-const CALLS: [(&str, u8); 7] = [
+const CALLS: [(&str, u8); 8] = [
     ("has_type_vars", 13),
     ("contains_bare_tyvar", 14),
     ("has_shared_tyvar_across_lambda_params", 15),
@@ -21,7 +21,10 @@ const CALLS: [(&str, u8); 7] = [
     ("unwrap_named", 16),
     ("count_reachable", 20),
     ("free_type_vars", 9),
+    ("simplify", SIMPLIFY),
 ];
+
+const SIMPLIFY: u8 = 4;
 
 const A: Node = Node::TyVar(0);
 const INT: Node = Node::Primitive(2);
@@ -34,7 +37,7 @@ fn chain(first: &[Node], step: impl Fn(u32) -> Node) -> Vec<Node> {
     first.iter().cloned().chain(rest).collect()
 }
 
-/// The closed set with these fields, by name number from 0 on.
+/// The closed set with these fields, each a name's number and a child.
 fn set(fields: &[(u8, u32)]) -> Node {
     let field = |&(name, child)| Field {
         optional: false,
@@ -87,13 +90,22 @@ fn host(nodes: &[Node]) -> Host {
     }
 }
 
+/// What a call answers, without the memory that it leaves.
+fn said(op: u8, host: Host, root: u32) -> String {
+    let case = match op {
+        SIMPLIFY => Case::Simplify(host, root),
+        _ => Case::OnType(op, host, root),
+    };
+    answer(&case).without_memory()
+}
+
 fn lines() -> String {
     let mut lines = String::new();
     for (name, nodes) in types() {
         let host = host(&nodes);
         let root = nodes.len() as u32 - 1;
         for (call, op) in CALLS {
-            let answer = answer(&Case::OnType(op, host.clone(), root)).line;
+            let answer = said(op, host.clone(), root);
             lines += &format!("{name}, {call}: {answer}\n");
         }
     }

@@ -1,4 +1,4 @@
--- A lambda has two children, and a named type one.
+-- A lambda has two children, and a named type and `Neg` one.
 use Rattle.walks.proofs.NodeReads.{parent-here, child-there, child-read}
 use borrow.Author.Needs.{needs}
 use Rattle.walks.proofs.nodes.first_child.Statement.{statement}

@@ -1,0 +1,6 @@
+pub mod Copying
+pub mod BoundKinds
+pub mod Splices
+pub mod Decisions
+pub mod ListNodes
+pub mod Closings

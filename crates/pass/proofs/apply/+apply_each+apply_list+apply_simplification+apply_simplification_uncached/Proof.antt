@@ -1,0 +1,413 @@
+-- The cycle: the measure is four times the node's number, and then which half.
+use Prim.Native.Nat.{ℕ, _+_, _-_, _*_, _<_}
+use borrow.Author.Needs.{needs}
+use Rattle.pass.proofs.Remembering.{ready-small, same-falls, cached-done, remember-room, remembered}
+use Rattle.pass.proofs.Turns.{Turn, turn-start, turn-item, turn-falls, turn-ready, turn-refused, turn-more, turn-done}
+use Rattle.pass.proofs.Others.{ready-range, ready-wide, list-ready, list-falls, each-falls, children-ready, other-refused, rebuilding, other-done}
+use Rattle.pass.proofs.Gathering.{list-at, list-here, members-fall, members-ready, list-refused, closing-ready, list-done, first-falls, first-ready, list-emptied}
+use borrow.Fn.Kinds.{In}
+use borrow.Fn.PlainCycle.{Measures, is, falls, and}
+use Rattle.pass.proofs.apply.apply_each.Reads as apply-each
+use Rattle.pass.proofs.apply.apply_each.Kinds as apply-each-kinds
+use Rattle.pass.proofs.apply.+apply_each+apply_list+apply_simplification+apply_simplification_uncached.Lts-apply_each as apply-each-lts
+use Rattle.pass.proofs.apply.apply_list.Reads as apply-list
+use Rattle.pass.proofs.apply.apply_list.Kinds as apply-list-kinds
+use Rattle.pass.proofs.apply.+apply_each+apply_list+apply_simplification+apply_simplification_uncached.Lts-apply_list as apply-list-lts
+use Rattle.pass.proofs.apply.apply_simplification.Reads as apply-simplification
+use Rattle.pass.proofs.apply.apply_simplification.Kinds as apply-simplification-kinds
+use Rattle.pass.proofs.apply.+apply_each+apply_list+apply_simplification+apply_simplification_uncached.Lts-apply_simplification as apply-simplification-lts
+use Rattle.pass.proofs.apply.apply_simplification_uncached.Reads as apply-simplification-uncached
+use Rattle.pass.proofs.apply.apply_simplification_uncached.Kinds as apply-simplification-uncached-kinds
+use Rattle.pass.proofs.apply.+apply_each+apply_list+apply_simplification+apply_simplification_uncached.Lts-apply_simplification_uncached as apply-simplification-uncached-lts
+use Rattle.pass.proofs.apply.first_member.Reads as first-member-reads
+use Rattle.pass.proofs.apply.item_at.Reads as item-at-reads
+use Rattle.pass.proofs.cache.cached.Reads as cached-reads
+use Rattle.pass.proofs.cache.remember.Reads as remember-reads
+use Rattle.rebuilding.proofs.children.all_children.Reads as all-children-reads
+use Rattle.member_lists.proofs.close_list.Reads as close-list-reads
+use Rattle.rebuilding.proofs.node.rebuild.Reads as rebuild-reads
+use Rattle.rebuilding.proofs.children.remaining.Reads as remaining-reads
+use Rattle.walks.proofs.nodes.kind_at.Reads as kind-at-reads
+use Rattle.words.proofs.arc_ty.wide.Reads as wide-reads
+use Rattle.pass.proofs.apply.+apply_each+apply_list+apply_simplification+apply_simplification_uncached.{
+  statement,
+}
+use Rattle.pass.proofs.apply.+apply_each+apply_list+apply_simplification+apply_simplification_uncached.Tie.{
+  close,
+}
+
+abbrev μ-apply-each : Measures 6 apply-each-kinds.ps ℕ
+μ-apply-each κs a = 4 * (a .1 .1 .1 .0)
+
+abbrev μ-apply-list : Measures 5 apply-list-kinds.ps ℕ
+μ-apply-list κs a = 4 * (a .1 .1 .1 .0) + 1
+
+abbrev μ-apply-simplification : Measures 5 apply-simplification-kinds.ps ℕ
+μ-apply-simplification κs a = 4 * (a .1 .1 .1 .0) + 3
+
+abbrev μ-apply-simplification-uncached : Measures 5 apply-simplification-uncached-kinds.ps ℕ
+μ-apply-simplification-uncached κs a = 4 * (a .1 .1 .1 .0) + 2
+
+abbrev apply-each-at : ℕ → In 6 apply-each-kinds.ps
+apply-each-at t =
+    and 6 apply-each-kinds.ps (is 6 apply-each-kinds.ps μ-apply-each t) apply-each.Pre
+
+abbrev apply-each-below : ℕ → In 6 apply-each-kinds.ps
+apply-each-below t =
+    and 6 apply-each-kinds.ps (falls 6 apply-each-kinds.ps _<_ μ-apply-each t) apply-each.Pre
+
+abbrev apply-list-at : ℕ → In 5 apply-list-kinds.ps
+apply-list-at t =
+    and 5 apply-list-kinds.ps (is 5 apply-list-kinds.ps μ-apply-list t) apply-list.Pre
+
+abbrev apply-list-below : ℕ → In 5 apply-list-kinds.ps
+apply-list-below t =
+    and 5 apply-list-kinds.ps (falls 5 apply-list-kinds.ps _<_ μ-apply-list t) apply-list.Pre
+
+abbrev apply-simplification-at : ℕ → In 5 apply-simplification-kinds.ps
+apply-simplification-at t =
+    and
+    5
+    apply-simplification-kinds.ps
+    (is 5 apply-simplification-kinds.ps μ-apply-simplification t)
+    apply-simplification.Pre
+
+abbrev apply-simplification-below : ℕ → In 5 apply-simplification-kinds.ps
+apply-simplification-below t =
+    and
+    5
+    apply-simplification-kinds.ps
+    (falls 5 apply-simplification-kinds.ps _<_ μ-apply-simplification t)
+    apply-simplification.Pre
+
+abbrev apply-simplification-uncached-at : ℕ → In 5 apply-simplification-uncached-kinds.ps
+apply-simplification-uncached-at t =
+    and
+    5
+    apply-simplification-uncached-kinds.ps
+    (is 5 apply-simplification-uncached-kinds.ps μ-apply-simplification-uncached t)
+    apply-simplification-uncached.Pre
+
+abbrev apply-simplification-uncached-below : ℕ → In 5 apply-simplification-uncached-kinds.ps
+apply-simplification-uncached-below t =
+    and
+    5
+    apply-simplification-uncached-kinds.ps
+    (falls 5 apply-simplification-uncached-kinds.ps _<_ μ-apply-simplification-uncached t)
+    apply-simplification-uncached.Pre
+
+abbrev apply-each-claims : ℕ → apply-each-lts.Claims
+apply-each-claims t = (item-at-reads.Asked, item-at-reads.Learnt, apply-simplification-below t, apply-simplification.Post)
+
+abbrev apply-list-claims : ℕ → apply-list-lts.Claims
+apply-list-claims t = (first-member-reads.Asked, first-member-reads.Learnt, remaining-reads.Asked, remaining-reads.Learnt, apply-each-below t, apply-each.Post, close-list-reads.Asked, close-list-reads.Learnt, apply-simplification-below t, apply-simplification.Post)
+
+abbrev apply-simplification-claims : ℕ → apply-simplification-lts.Claims
+apply-simplification-claims t = (cached-reads.Asked, cached-reads.Learnt, apply-simplification-uncached-below t, apply-simplification-uncached.Post, remember-reads.Asked, remember-reads.Learnt)
+
+abbrev apply-simplification-uncached-claims : ℕ → apply-simplification-uncached-lts.Claims
+apply-simplification-uncached-claims t = (wide-reads.Asked, wide-reads.Learnt, kind-at-reads.Asked, kind-at-reads.Learnt, apply-list-below t, apply-list.Post, all-children-reads.Asked, all-children-reads.Learnt, apply-each-below t, apply-each.Post, rebuild-reads.Asked, rebuild-reads.Learnt)
+
+abbrev apply-each-Inv-loop : apply-each-lts.InvT-loop
+apply-each-Inv-loop words₀ starts₀ n items₀ count removable keep dropped₀ kept₀ last₀ i₀ words starts items dropped kept last i = Turn words₀ starts₀ last₀ n items₀ count removable keep dropped₀ kept₀ words starts items dropped kept last i
+
+abbrev apply-each-μ-loop : apply-each-lts.MeasureT-loop
+apply-each-μ-loop words₀ starts₀ n items₀ count removable keep dropped₀ kept₀ last₀ i₀ words starts items dropped kept last i = count - i
+
+apply-each-loop-holds : (t : ℕ) → apply-each-lts.Need-loop-holds (apply-each-claims t) (apply-each-at t) apply-each.Post apply-each-Inv-loop apply-each-μ-loop
+apply-each-loop-holds t c = search turn-start
+
+apply-each-item-at-requires : (t : ℕ) → apply-each-lts.Need-item-at-requires (apply-each-claims t) (apply-each-at t) apply-each.Post apply-each-Inv-loop apply-each-μ-loop
+apply-each-item-at-requires t c κs = search turn-item
+
+apply-each-apply-simplification-requires :
+    (t : ℕ) → apply-each-lts.Need-apply-simplification-requires (apply-each-claims t) (apply-each-at t) apply-each.Post apply-each-Inv-loop apply-each-μ-loop
+apply-each-apply-simplification-requires t c κs = (search turn-falls, search turn-ready)
+
+apply-each-enum-known-r : (t : ℕ) → apply-each-lts.Need-enum-known-r (apply-each-claims t) (apply-each-at t) apply-each.Post apply-each-Inv-loop apply-each-μ-loop
+apply-each-enum-known-r t c = search needs
+
+apply-each-same-length : (t : ℕ) → apply-each-lts.Need-same-length (apply-each-claims t) (apply-each-at t) apply-each.Post apply-each-Inv-loop apply-each-μ-loop
+apply-each-same-length t c = search needs
+
+apply-each-same-length-2 : (t : ℕ) → apply-each-lts.Need-same-length-2 (apply-each-claims t) (apply-each-at t) apply-each.Post apply-each-Inv-loop apply-each-μ-loop
+apply-each-same-length-2 t c = search needs
+
+apply-each-returns : (t : ℕ) → apply-each-lts.Need-returns (apply-each-claims t) (apply-each-at t) apply-each.Post apply-each-Inv-loop apply-each-μ-loop
+apply-each-returns t c = search (turn-refused (c .before .before .before .before .before .before .before .before .before .before .before .before .before .before .before .loop .inv) (c .before .before .before .before .before .before .before .before .before .before .before .before .before .before .loop-test .taken) (c .before .before .before .before .before .before .before .before .before .before .before .before .item-at .ensures) (c .before .before .before .before .before .before .before .apply-simplification .ensures))
+
+apply-each-enum-known-r-2 : (t : ℕ) → apply-each-lts.Need-enum-known-r-2 (apply-each-claims t) (apply-each-at t) apply-each.Post apply-each-Inv-loop apply-each-μ-loop
+apply-each-enum-known-r-2 t c = search needs
+
+apply-each-mul-items : (t : ℕ) → apply-each-lts.Need-mul-items (apply-each-claims t) (apply-each-at t) apply-each.Post apply-each-Inv-loop apply-each-μ-loop
+apply-each-mul-items t c = search needs
+
+apply-each-element-write-items : (t : ℕ) → apply-each-lts.Need-element-write-items (apply-each-claims t) (apply-each-at t) apply-each.Post apply-each-Inv-loop apply-each-μ-loop
+apply-each-element-write-items t c = search needs
+
+apply-each-add-i : (t : ℕ) → apply-each-lts.Need-add-i (apply-each-claims t) (apply-each-at t) apply-each.Post apply-each-Inv-loop apply-each-μ-loop
+apply-each-add-i t c = search needs
+
+apply-each-loop-less : (t : ℕ) → apply-each-lts.Need-loop-less (apply-each-claims t) (apply-each-at t) apply-each.Post apply-each-Inv-loop apply-each-μ-loop
+apply-each-loop-less t c = search needs
+
+apply-each-loop-again : (t : ℕ) → apply-each-lts.Need-loop-again (apply-each-claims t) (apply-each-at t) apply-each.Post apply-each-Inv-loop apply-each-μ-loop
+apply-each-loop-again t c = search (turn-more (c .before .before .before .before .before .before .before .before .before .before .before .before .before .before .before .loop .inv) (c .before .before .before .before .before .before .before .before .before .before .before .before .before .before .loop-test .taken) (c .before .before .before .before .before .before .before .before .before .before .before .before .item-at .ensures) (c .before .before .before .before .before .before .before .apply-simplification .ensures))
+
+apply-each-same-length-3 : (t : ℕ) → apply-each-lts.Need-same-length-3 (apply-each-claims t) (apply-each-at t) apply-each.Post apply-each-Inv-loop apply-each-μ-loop
+apply-each-same-length-3 t c = search needs
+
+apply-each-same-length-4 : (t : ℕ) → apply-each-lts.Need-same-length-4 (apply-each-claims t) (apply-each-at t) apply-each.Post apply-each-Inv-loop apply-each-μ-loop
+apply-each-same-length-4 t c = search needs
+
+apply-each-returns-2 : (t : ℕ) → apply-each-lts.Need-returns-2 (apply-each-claims t) (apply-each-at t) apply-each.Post apply-each-Inv-loop apply-each-μ-loop
+apply-each-returns-2 t c = search turn-done
+
+apply-list-first-member-requires : (t : ℕ) → apply-list-lts.Need-first-member-requires (apply-list-claims t) (apply-list-at t) apply-list.Post
+apply-list-first-member-requires t c κs = search list-at
+
+apply-list-remaining-requires : (t : ℕ) → apply-list-lts.Need-remaining-requires (apply-list-claims t) (apply-list-at t) apply-list.Post
+apply-list-remaining-requires t c κs = search list-here
+
+apply-list-apply-each-requires : (t : ℕ) → apply-list-lts.Need-apply-each-requires (apply-list-claims t) (apply-list-at t) apply-list.Post
+apply-list-apply-each-requires t c κs = (search members-fall, search (members-ready (c .before .before .before .before .before .before .before .before .before .before .before .before .before .pre .1) (c .before .before .before .before .before .remaining .ensures)))
+
+apply-list-enum-known-r : (t : ℕ) → apply-list-lts.Need-enum-known-r (apply-list-claims t) (apply-list-at t) apply-list.Post
+apply-list-enum-known-r t c = search needs
+
+apply-list-enum-known-r-2 : (t : ℕ) → apply-list-lts.Need-enum-known-r-2 (apply-list-claims t) (apply-list-at t) apply-list.Post
+apply-list-enum-known-r-2 t c = search needs
+
+apply-list-enum-known-closed : (t : ℕ) → apply-list-lts.Need-enum-known-closed (apply-list-claims t) (apply-list-at t) apply-list.Post
+apply-list-enum-known-closed t c = search needs
+
+apply-list-enum-told : (t : ℕ) → apply-list-lts.Need-enum-told (apply-list-claims t) (apply-list-at t) apply-list.Post
+apply-list-enum-told t c = search needs
+
+apply-list-same-length : (t : ℕ) → apply-list-lts.Need-same-length (apply-list-claims t) (apply-list-at t) apply-list.Post
+apply-list-same-length t c = search needs
+
+apply-list-same-length-2 : (t : ℕ) → apply-list-lts.Need-same-length-2 (apply-list-claims t) (apply-list-at t) apply-list.Post
+apply-list-same-length-2 t c = search needs
+
+apply-list-returns : (t : ℕ) → apply-list-lts.Need-returns (apply-list-claims t) (apply-list-at t) apply-list.Post
+apply-list-returns t c = search (list-refused (c .before .before .before .before .before .before .before .before .before .before .before .before .before .before .before .before .before .before .before .before .before .pre .1) (c .before .before .before .before .before .before .before .before .before .before .before .before .before .remaining .ensures) (c .before .before .before .before .before .before .before .apply-each .ensures))
+
+apply-list-same-length-3 : (t : ℕ) → apply-list-lts.Need-same-length-3 (apply-list-claims t) (apply-list-at t) apply-list.Post
+apply-list-same-length-3 t c = search needs
+
+apply-list-same-length-4 : (t : ℕ) → apply-list-lts.Need-same-length-4 (apply-list-claims t) (apply-list-at t) apply-list.Post
+apply-list-same-length-4 t c = search needs
+
+apply-list-returns-2 : (t : ℕ) → apply-list-lts.Need-returns-2 (apply-list-claims t) (apply-list-at t) apply-list.Post
+apply-list-returns-2 t c = search (list-done (c .before .before .before .before .before .before .before .before .before .before .before .before .before .before .before .before .before .before .before .before .before .before .before .before .before .before .before .before .before .before .before .before .before .pre .1) (c .before .before .before .before .before .before .before .before .before .before .before .before .before .before .before .before .before .before .before .before .before .before .before .before .before .remaining .ensures) (c .before .before .before .before .before .before .before .before .before .before .before .before .before .before .before .before .before .before .before .apply-each .ensures) (c .before .before .before .before .before .before .before .before .before .before .before .before .before .r2 .given .1) (c .before .before .before .before .before .before .before .close-list .ensures))
+
+apply-list-same-length-5 : (t : ℕ) → apply-list-lts.Need-same-length-5 (apply-list-claims t) (apply-list-at t) apply-list.Post
+apply-list-same-length-5 t c = search needs
+
+apply-list-same-length-6 : (t : ℕ) → apply-list-lts.Need-same-length-6 (apply-list-claims t) (apply-list-at t) apply-list.Post
+apply-list-same-length-6 t c = search needs
+
+apply-list-returns-3 : (t : ℕ) → apply-list-lts.Need-returns-3 (apply-list-claims t) (apply-list-at t) apply-list.Post
+apply-list-returns-3 t c = list-emptied (c .before .before .before .before .before .before .before .before .before .before .before .before .before .before .before .before .before .before .before .before .before .before .before .before .before .before .before .before .before .before .before .before .before .before .before .before .before .before .before .before .before .pre .1) (c .before .before .before .before .before .before .before .before .before .before .before .before .before .before .before .before .before .before .before .before .before .before .before .before .before .before .before .before .before .before .before .before .before .remaining .ensures) (c .before .before .before .before .before .before .before .before .before .before .before .before .before .before .before .before .before .before .before .before .before .before .before .before .before .before .before .apply-each .ensures) (c .before .before .before .before .before .before .before .before .before .before .before .before .before .before .before .before .before .before .before .before .before .r2 .given .1) (c .before .before .before .before .before .before .before .before .before .before .before .before .before .before .before .close-list .ensures) (c .before .before .before .before .before .before .before .before .before .before .before .before .before .before .before .before .before .before .before .before .before .before .before .before .before .before .before .before .before .before .before .before .before .before .before .before .first-member .ensures) (c .before .before .before .before .before .before .before .before .before .enum-told .given .1) (c .before .before .before .before .apply-simplification .ensures) (c .before .before .before .before .before .before .before .before .before .before .before .before .before .before .before .before .before .before .before .before .before .before .before .before .before .before .before .apply-each .kept .0) (c .before .before .before .before .before .before .before .before .before .before .before .before .before .before .before .before .before .before .before .before .before .before .before .before .before .before .before .apply-each .kept .1 .0)
+
+apply-list-close-list-requires : (t : ℕ) → apply-list-lts.Need-close-list-requires (apply-list-claims t) (apply-list-at t) apply-list.Post
+apply-list-close-list-requires t c κs = closing-ready (c .before .before .before .before .before .before .before .before .before .before .before .before .before .before .before .before .before .before .before .before .before .before .before .before .before .pre .1) (c .before .before .before .before .before .before .before .before .before .before .before .before .before .before .before .before .before .remaining .ensures) (c .before .before .before .before .before .before .before .before .before .before .before .apply-each .ensures) (c .before .before .before .before .before .r2 .given .1)
+
+apply-list-apply-simplification-requires :
+    (t : ℕ) → apply-list-lts.Need-apply-simplification-requires (apply-list-claims t) (apply-list-at t) apply-list.Post
+apply-list-apply-simplification-requires t c κs = (first-falls (c .before .before .before .before .before .before .before .before .before .before .before .before .before .before .before .before .before .before .before .before .before .before .before .before .before .before .before .before .before .before .before .before .before .before .before .before .pre .1) (c .before .before .before .before .before .before .before .before .before .before .before .before .before .before .before .before .before .before .before .before .before .before .before .before .before .before .before .before .remaining .ensures) (c .before .before .before .before .before .before .before .before .before .before .before .before .before .before .before .before .before .before .before .before .before .before .apply-each .ensures) (c .before .before .before .before .before .before .before .before .before .before .before .before .before .before .before .before .r2 .given .1) (c .before .before .before .before .before .before .before .before .before .before .close-list .ensures) (c .before .before .before .before .before .before .before .before .before .before .before .before .before .before .before .before .before .before .before .before .before .before .before .before .before .before .before .before .before .before .before .first-member .ensures) (c .before .before .before .before .enum-told .given .1) (c .before .before .before .before .before .before .before .before .before .before .before .before .before .before .before .before .before .before .before .before .before .before .before .before .before .before .before .before .before .before .before .before .before .before .before .before .pre .0), search (first-ready (c .before .before .before .before .before .before .before .before .before .before .before .before .before .before .before .before .before .before .before .before .before .before .before .before .before .before .before .before .before .before .before .before .before .before .before .before .pre .1) (c .before .before .before .before .before .before .before .before .before .before .before .before .before .before .before .before .before .before .before .before .before .before .before .before .before .before .before .before .remaining .ensures) (c .before .before .before .before .before .before .before .before .before .before .before .before .before .before .before .before .before .before .before .before .before .before .apply-each .ensures) (c .before .before .before .before .before .before .before .before .before .before .before .before .before .before .before .before .r2 .given .1) (c .before .before .before .before .before .before .before .before .before .before .close-list .ensures) (c .before .before .before .before .before .before .before .before .before .before .before .before .before .before .before .before .before .before .before .before .before .before .before .before .before .before .before .before .before .before .before .first-member .ensures) (c .before .before .before .before .enum-told .given .1)))
+
+apply-simplification-cached-requires : (t : ℕ) → apply-simplification-lts.Need-cached-requires (apply-simplification-claims t) (apply-simplification-at t) apply-simplification.Post
+apply-simplification-cached-requires t c κs = search ready-small
+
+apply-simplification-sub-t16 : (t : ℕ) → apply-simplification-lts.Need-sub-t16 (apply-simplification-claims t) (apply-simplification-at t) apply-simplification.Post
+apply-simplification-sub-t16 t c = search needs
+
+apply-simplification-returns : (t : ℕ) → apply-simplification-lts.Need-returns (apply-simplification-claims t) (apply-simplification-at t) apply-simplification.Post
+apply-simplification-returns t c = search cached-done
+
+apply-simplification-apply-simplification-uncached-requires :
+    (t : ℕ) → apply-simplification-lts.Need-apply-simplification-uncached-requires (apply-simplification-claims t) (apply-simplification-at t) apply-simplification.Post
+apply-simplification-apply-simplification-uncached-requires t c κs = (search same-falls, search needs)
+
+apply-simplification-enum-known-r : (t : ℕ) → apply-simplification-lts.Need-enum-known-r (apply-simplification-claims t) (apply-simplification-at t) apply-simplification.Post
+apply-simplification-enum-known-r t c = search needs
+
+apply-simplification-enum-told : (t : ℕ) → apply-simplification-lts.Need-enum-told (apply-simplification-claims t) (apply-simplification-at t) apply-simplification.Post
+apply-simplification-enum-told t c = search needs
+
+apply-simplification-same-length : (t : ℕ) → apply-simplification-lts.Need-same-length (apply-simplification-claims t) (apply-simplification-at t) apply-simplification.Post
+apply-simplification-same-length t c = search needs
+
+apply-simplification-same-length-2 : (t : ℕ) → apply-simplification-lts.Need-same-length-2 (apply-simplification-claims t) (apply-simplification-at t) apply-simplification.Post
+apply-simplification-same-length-2 t c = search needs
+
+apply-simplification-returns-2 : (t : ℕ) → apply-simplification-lts.Need-returns-2 (apply-simplification-claims t) (apply-simplification-at t) apply-simplification.Post
+apply-simplification-returns-2 t c = search needs
+
+apply-simplification-remember-requires : (t : ℕ) → apply-simplification-lts.Need-remember-requires (apply-simplification-claims t) (apply-simplification-at t) apply-simplification.Post
+apply-simplification-remember-requires t c κs = search (remember-room (c .before .before .before .before .before .before .before .before .before .before .before .before .before .before .before .before .before .before .before .before .pre .1) (c .before .before .before .before .before .before .before .before .before .apply-simplification-uncached .ensures))
+
+apply-simplification-same-length-3 : (t : ℕ) → apply-simplification-lts.Need-same-length-3 (apply-simplification-claims t) (apply-simplification-at t) apply-simplification.Post
+apply-simplification-same-length-3 t c = search needs
+
+apply-simplification-same-length-4 : (t : ℕ) → apply-simplification-lts.Need-same-length-4 (apply-simplification-claims t) (apply-simplification-at t) apply-simplification.Post
+apply-simplification-same-length-4 t c = search needs
+
+apply-simplification-returns-3 : (t : ℕ) → apply-simplification-lts.Need-returns-3 (apply-simplification-claims t) (apply-simplification-at t) apply-simplification.Post
+apply-simplification-returns-3 t c = search remembered
+
+apply-simplification-uncached-wide-requires :
+    (t : ℕ) → apply-simplification-uncached-lts.Need-wide-requires (apply-simplification-uncached-claims t) (apply-simplification-uncached-at t) apply-simplification-uncached.Post
+apply-simplification-uncached-wide-requires t c κs = search needs
+
+apply-simplification-uncached-kind-at-requires :
+    (t : ℕ) → apply-simplification-uncached-lts.Need-kind-at-requires (apply-simplification-uncached-claims t) (apply-simplification-uncached-at t) apply-simplification-uncached.Post
+apply-simplification-uncached-kind-at-requires t c κs = search ready-wide
+
+apply-simplification-uncached-apply-list-requires :
+    (t : ℕ) → apply-simplification-uncached-lts.Need-apply-list-requires (apply-simplification-uncached-claims t) (apply-simplification-uncached-at t) apply-simplification-uncached.Post
+apply-simplification-uncached-apply-list-requires t c κs = (search list-falls, search list-ready)
+
+apply-simplification-uncached-same-length :
+    (t : ℕ) → apply-simplification-uncached-lts.Need-same-length (apply-simplification-uncached-claims t) (apply-simplification-uncached-at t) apply-simplification-uncached.Post
+apply-simplification-uncached-same-length t c = search needs
+
+apply-simplification-uncached-same-length-2 :
+    (t : ℕ) → apply-simplification-uncached-lts.Need-same-length-2 (apply-simplification-uncached-claims t) (apply-simplification-uncached-at t) apply-simplification-uncached.Post
+apply-simplification-uncached-same-length-2 t c = search needs
+
+apply-simplification-uncached-returns : (t : ℕ) → apply-simplification-uncached-lts.Need-returns (apply-simplification-uncached-claims t) (apply-simplification-uncached-at t) apply-simplification-uncached.Post
+apply-simplification-uncached-returns t c = search needs
+
+apply-simplification-uncached-all-children-requires :
+    (t : ℕ) → apply-simplification-uncached-lts.Need-all-children-requires (apply-simplification-uncached-claims t) (apply-simplification-uncached-at t) apply-simplification-uncached.Post
+apply-simplification-uncached-all-children-requires t c κs = search ready-range
+
+apply-simplification-uncached-apply-each-requires :
+    (t : ℕ) → apply-simplification-uncached-lts.Need-apply-each-requires (apply-simplification-uncached-claims t) (apply-simplification-uncached-at t) apply-simplification-uncached.Post
+apply-simplification-uncached-apply-each-requires t c κs = (search each-falls, search children-ready)
+
+apply-simplification-uncached-enum-known-r :
+    (t : ℕ) → apply-simplification-uncached-lts.Need-enum-known-r (apply-simplification-uncached-claims t) (apply-simplification-uncached-at t) apply-simplification-uncached.Post
+apply-simplification-uncached-enum-known-r t c = search needs
+
+apply-simplification-uncached-rebuild-requires :
+    (t : ℕ) → apply-simplification-uncached-lts.Need-rebuild-requires (apply-simplification-uncached-claims t) (apply-simplification-uncached-at t) apply-simplification-uncached.Post
+apply-simplification-uncached-rebuild-requires t c κs = rebuilding (c .before .before .before .before .before .before .before .before .before .before .before .before .before .before .before .before .before .before .before .before .before .before .before .before .before .before .before .pre .1) (c .before .before .before .before .before .before .before .before .before .before .before .before .before .before .before .before .before .all-children .ensures) (c .before .before .before .before .before .before .before .before .before .before .before .apply-each .ensures) (c .before .before .before .before .before .r .given .1)
+
+apply-simplification-uncached-enum-known-r-2 :
+    (t : ℕ) → apply-simplification-uncached-lts.Need-enum-known-r-2 (apply-simplification-uncached-claims t) (apply-simplification-uncached-at t) apply-simplification-uncached.Post
+apply-simplification-uncached-enum-known-r-2 t c = search needs
+
+apply-simplification-uncached-same-length-3 :
+    (t : ℕ) → apply-simplification-uncached-lts.Need-same-length-3 (apply-simplification-uncached-claims t) (apply-simplification-uncached-at t) apply-simplification-uncached.Post
+apply-simplification-uncached-same-length-3 t c = search needs
+
+apply-simplification-uncached-same-length-4 :
+    (t : ℕ) → apply-simplification-uncached-lts.Need-same-length-4 (apply-simplification-uncached-claims t) (apply-simplification-uncached-at t) apply-simplification-uncached.Post
+apply-simplification-uncached-same-length-4 t c = search needs
+
+apply-simplification-uncached-returns-2 :
+    (t : ℕ) → apply-simplification-uncached-lts.Need-returns-2 (apply-simplification-uncached-claims t) (apply-simplification-uncached-at t) apply-simplification-uncached.Post
+apply-simplification-uncached-returns-2 t c = search (other-done (c .before .before .before .before .before .before .before .before .before .before .before .before .before .before .before .before .before .before .before .before .before .before .before .before .before .before .before .before .before .before .before .before .pre .1) (c .before .before .before .before .before .before .before .before .before .before .before .before .before .before .before .before .before .before .before .before .before .before .all-children .ensures) (c .before .before .before .before .before .before .before .before .before .before .before .before .before .before .before .before .apply-each .ensures) (c .before .before .before .before .before .before .before .before .before .before .r .given .1) (c .before .before .before .before .rebuild .ensures) (c .before .before .before .before .before .before .before .before .before .before .before .before .before .before .before .before .before .before .before .before .before .before .before .before .before .before .before .wide .ensures) (c .before .before .before .before .before .before .before .before .before .before .before .before .before .before .before .before .before .before .before .before .before .before .before .before .before .before .kind-at .ensures))
+
+apply-simplification-uncached-same-length-5 :
+    (t : ℕ) → apply-simplification-uncached-lts.Need-same-length-5 (apply-simplification-uncached-claims t) (apply-simplification-uncached-at t) apply-simplification-uncached.Post
+apply-simplification-uncached-same-length-5 t c = search needs
+
+apply-simplification-uncached-same-length-6 :
+    (t : ℕ) → apply-simplification-uncached-lts.Need-same-length-6 (apply-simplification-uncached-claims t) (apply-simplification-uncached-at t) apply-simplification-uncached.Post
+apply-simplification-uncached-same-length-6 t c = search needs
+
+apply-simplification-uncached-returns-3 :
+    (t : ℕ) → apply-simplification-uncached-lts.Need-returns-3 (apply-simplification-uncached-claims t) (apply-simplification-uncached-at t) apply-simplification-uncached.Post
+apply-simplification-uncached-returns-3 t c = search other-refused
+
+pub +apply-each+apply-list+apply-simplification+apply-simplification-uncached-spec :
+    {M : Type 1} → statement M
++apply-each+apply-list+apply-simplification+apply-simplification-uncached-spec =
+    close
+    μ-apply-each
+    μ-apply-list
+    μ-apply-simplification
+    μ-apply-simplification-uncached
+    (λ t. apply-each-lts.spec (apply-each-claims t)
+    (apply-each-at t)
+    apply-each.Post
+    apply-each-Inv-loop
+    apply-each-μ-loop
+    (apply-each-loop-holds t)
+    (apply-each-item-at-requires t)
+    (apply-each-apply-simplification-requires t)
+    (apply-each-enum-known-r t)
+    (apply-each-same-length t)
+    (apply-each-same-length-2 t)
+    (apply-each-returns t)
+    (apply-each-enum-known-r-2 t)
+    (apply-each-mul-items t)
+    (apply-each-element-write-items t)
+    (apply-each-add-i t)
+    (apply-each-loop-less t)
+    (apply-each-loop-again t)
+    (apply-each-same-length-3 t)
+    (apply-each-same-length-4 t)
+    (apply-each-returns-2 t))
+    (λ t. apply-list-lts.spec (apply-list-claims t)
+    (apply-list-at t)
+    apply-list.Post
+    (apply-list-first-member-requires t)
+    (apply-list-remaining-requires t)
+    (apply-list-apply-each-requires t)
+    (apply-list-enum-known-r t)
+    (apply-list-enum-known-r-2 t)
+    (apply-list-close-list-requires t)
+    (apply-list-enum-known-closed t)
+    (apply-list-enum-told t)
+    (apply-list-apply-simplification-requires t)
+    (apply-list-same-length t)
+    (apply-list-same-length-2 t)
+    (apply-list-returns t)
+    (apply-list-same-length-3 t)
+    (apply-list-same-length-4 t)
+    (apply-list-returns-2 t)
+    (apply-list-same-length-5 t)
+    (apply-list-same-length-6 t)
+    (apply-list-returns-3 t))
+    (λ t. apply-simplification-lts.spec (apply-simplification-claims t)
+    (apply-simplification-at t)
+    apply-simplification.Post
+    (apply-simplification-cached-requires t)
+    (apply-simplification-sub-t16 t)
+    (apply-simplification-returns t)
+    (apply-simplification-apply-simplification-uncached-requires t)
+    (apply-simplification-enum-known-r t)
+    (apply-simplification-enum-told t)
+    (apply-simplification-same-length t)
+    (apply-simplification-same-length-2 t)
+    (apply-simplification-returns-2 t)
+    (apply-simplification-remember-requires t)
+    (apply-simplification-same-length-3 t)
+    (apply-simplification-same-length-4 t)
+    (apply-simplification-returns-3 t))
+    λ t. apply-simplification-uncached-lts.spec (apply-simplification-uncached-claims t)
+    (apply-simplification-uncached-at t)
+    apply-simplification-uncached.Post
+    (apply-simplification-uncached-wide-requires t)
+    (apply-simplification-uncached-kind-at-requires t)
+    (apply-simplification-uncached-apply-list-requires t)
+    (apply-simplification-uncached-same-length t)
+    (apply-simplification-uncached-same-length-2 t)
+    (apply-simplification-uncached-returns t)
+    (apply-simplification-uncached-all-children-requires t)
+    (apply-simplification-uncached-apply-each-requires t)
+    (apply-simplification-uncached-enum-known-r t)
+    (apply-simplification-uncached-rebuild-requires t)
+    (apply-simplification-uncached-enum-known-r-2 t)
+    (apply-simplification-uncached-same-length-3 t)
+    (apply-simplification-uncached-same-length-4 t)
+    (apply-simplification-uncached-returns-2 t)
+    (apply-simplification-uncached-same-length-5 t)
+    (apply-simplification-uncached-same-length-6 t)
+    (apply-simplification-uncached-returns-3 t)

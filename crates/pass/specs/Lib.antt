@@ -1,0 +1,3 @@
+pub mod Caches
+pub mod Applied
+pub mod Once

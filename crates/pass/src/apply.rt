@@ -1,0 +1,186 @@
+// `apply_simplification` and its uncached half. A node is rebuilt from what its children become; of a member list some fall
+// away. A refusal is passed up, and memory then begins with the arena as it was.
+use crate::cache::cached;
+use crate::cache::remember;
+use arena::added::Interned;
+use arena::stored::node_at;
+use member_lists::Closed;
+use member_lists::close_list;
+use rebuilding::children::all_children;
+use rebuilding::children::remaining;
+use rebuilding::node::rebuild;
+use types::Counters;
+use types::arc_ty::Head;
+use types::arc_ty::wide;
+use walks::children::child_at;
+use walks::nodes::kind_at;
+ghost use mathlib.Core.Path.{_≡_};
+ghost use Prim.Native.Nat.{_<_};
+ghost use lib.ListN.{getD};
+ghost use Rattle.pass.specs.Applied.{Ready, Applies, ListAt, ListReady, FirstMember, EachReady, AppliesEach};
+
+// Whether several nodes were simplified, with the counters after, or the number of a refusal.
+pub enum Run {
+    Went(Counters),
+    Refused(u32),
+}
+
+// The first member of the list n.
+fn first_member(words: &[u32], starts: &[u32], c: Counters, n: u32) -> u32
+    requires { ⌜ ListAt (now words) (now starts) c n ⌝ }
+    ensures { λ r. ⌜ FirstMember (now (words .entry)) (now (starts .entry)) c n r ⌝ }
+{
+    child_at(node_at(words, starts, c, wide(n)), 0)
+}
+
+// What node n becomes, remembered.
+pub fn apply_simplification(
+    words: &mut [u32],
+    starts: &mut [u32],
+    c: Counters,
+    n: u32,
+    removable: &[u64; 64],
+    keep: bool,
+    dropped: &mut [u32; 4096],
+    kept: &mut [u32; 4096],
+) -> Interned
+    requires { ⌜ Ready (now words) (now starts) c n (now removable) (now dropped) (now kept) ⌝ }
+    ensures { λ r. ⌜ Applies (now (words .entry)) (now (starts .entry)) c n (now (removable .entry)) keep (now (dropped .entry)) (now (kept .entry)) (now (words .exit)) (now (starts .exit)) (now (dropped .exit)) (now (kept .exit)) r ⌝ }
+{
+    let hit = cached(dropped, kept, keep, n);
+    if hit != 0 {
+        return Interned::Node(hit - 1, c);
+    }
+    let r = apply_simplification_uncached(words, starts, c, n, removable, keep, dropped, kept);
+    let Interned::Node(m, d) = r else {
+        return r;
+    };
+    remember(dropped, kept, keep, n, m);
+    Interned::Node(m, d)
+}
+
+// The same, worked out.
+fn apply_simplification_uncached(
+    words: &mut [u32],
+    starts: &mut [u32],
+    c: Counters,
+    n: u32,
+    removable: &[u64; 64],
+    keep: bool,
+    dropped: &mut [u32; 4096],
+    kept: &mut [u32; 4096],
+) -> Interned
+    requires { ⌜ Ready (now words) (now starts) c n (now removable) (now dropped) (now kept) ⌝ }
+    ensures { λ r. ⌜ Applies (now (words .entry)) (now (starts .entry)) c n (now (removable .entry)) keep (now (dropped .entry)) (now (kept .entry)) (now (words .exit)) (now (starts .exit)) (now (dropped .exit)) (now (kept .exit)) r ⌝ }
+{
+    let kind = kind_at(words, starts, c, wide(n));
+    if (kind == Head::UNION) | (kind == Head::INTERSECTION) {
+        return apply_list(words, starts, c, n, kind, removable, keep, dropped, kept);
+    }
+    let mut list = all_children(words, starts, c, n);
+    let count = list.count;
+    let r = apply_each(
+        words,
+        starts,
+        c,
+        n,
+        &mut list.items,
+        count,
+        removable,
+        keep,
+        dropped,
+        kept,
+    );
+    match r {
+        Run::Went(d) => rebuild(words, starts, d, n, &list.items, count),
+        Run::Refused(number) => Interned::Refused(number),
+    }
+}
+
+// A member list: its members that remain are simplified and gathered; if nothing is left of them, the first is simplified with
+// no variable removable.
+fn apply_list(
+    words: &mut [u32],
+    starts: &mut [u32],
+    c: Counters,
+    n: u32,
+    kind: u32,
+    removable: &[u64; 64],
+    keep: bool,
+    dropped: &mut [u32; 4096],
+    kept: &mut [u32; 4096],
+) -> Interned
+    requires { ⌜ ListReady (now words) (now starts) c n kind (now removable) (now dropped) (now kept) ⌝ }
+    ensures { λ r. ⌜ Applies (now (words .entry)) (now (starts .entry)) c n (now (removable .entry)) keep (now (dropped .entry)) (now (kept .entry)) (now (words .exit)) (now (starts .exit)) (now (dropped .exit)) (now (kept .exit)) r ⌝ }
+{
+    let first = first_member(words, starts, c, n);
+    let mut list = remaining(words, starts, c, n, removable, keep);
+    let count = list.count;
+    let r = apply_each(
+        words,
+        starts,
+        c,
+        n,
+        &mut list.items,
+        count,
+        removable,
+        keep,
+        dropped,
+        kept,
+    );
+    match r {
+        Run::Refused(number) => Interned::Refused(number),
+        Run::Went(d) => {
+            let closed = close_list(words, starts, d, kind, &list.items, count);
+            match closed {
+                Closed::Done(done) => done,
+                Closed::Empty => {
+                    apply_simplification(words, starts, d, first, removable, true, dropped, kept)
+                }
+            }
+        }
+    }
+}
+
+// What each of the first `count` items becomes, in its place; all are below n.
+fn apply_each(
+    words: &mut [u32],
+    starts: &mut [u32],
+    c: Counters,
+    n: u32,
+    items: &mut [u32; 65],
+    count: usize,
+    removable: &[u64; 64],
+    keep: bool,
+    dropped: &mut [u32; 4096],
+    kept: &mut [u32; 4096],
+) -> Run
+    requires { ⌜ EachReady (now words) (now starts) c n (now items) count (now removable) (now dropped) (now kept) ⌝ }
+    ensures { λ r. ⌜ AppliesEach (now (words .entry)) (now (starts .entry)) c n (now (items .entry)) count (now (removable .entry)) keep (now (dropped .entry)) (now (kept .entry)) (now (words .exit)) (now (starts .exit)) (now (items .exit)) (now (dropped .exit)) (now (kept .exit)) r ⌝ }
+{
+    let mut last = c;
+    let mut i = 0;
+    while i < count {
+        let item = item_at(items, i);
+        let r = apply_simplification(words, starts, last, item, removable, keep, dropped, kept);
+        match r {
+            Interned::Refused(number) => {
+                return Run::Refused(number);
+            }
+            Interned::Node(m, d) => {
+                items[i] = m;
+                last = d;
+            }
+        }
+        i += 1;
+    }
+    Run::Went(last)
+}
+
+// Item i: an element behind a reference to an array says nothing of its range, an answer does.
+fn item_at(items: &[u32; 65], i: usize) -> u32
+    requires { ⌜ i < 65 ⌝ }
+    ensures { λ r. ⌜ r ≡ getD (now (items .entry)) i 0 ⌝ }
+{
+    items[i]
+}

@@ -1,0 +1,28 @@
+// One pass over the type of a root.
+use crate::apply::apply_simplification;
+use arena::added::Interned;
+use types::Counters;
+use types::arc_ty::wide;
+use walks::removable::one_signed;
+ghost use Rattle.arena.specs.Stored.{InRange};
+ghost use Rattle.pass.specs.Once.{SimplifiesOnce};
+
+// What the root becomes, where the variables with places of one sign in its type are removable.
+pub fn simplify_once(words: &mut [u32], starts: &mut [u32], c: Counters, root: u32) -> Interned
+    requires { ⌜ InRange (now words) (now starts) c root ⌝ }
+    ensures { λ r. ⌜ SimplifiesOnce (now (words .entry)) (now (starts .entry)) c root (now (words .exit)) (now (starts .exit)) r ⌝ }
+{
+    let removable = one_signed(words, starts, c, wide(root));
+    let mut dropped = [0u32; 4096];
+    let mut kept = [0u32; 4096];
+    apply_simplification(
+        words,
+        starts,
+        c,
+        root,
+        &removable,
+        false,
+        &mut dropped,
+        &mut kept,
+    )
+}

@@ -1,0 +1,4 @@
+pub mod Dropping
+pub mod Copying
+pub mod Exchanging
+pub mod Interning

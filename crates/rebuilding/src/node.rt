@@ -1,0 +1,89 @@
+// A node with other children.
+use arena::added::Interned;
+use arena::added::intern_node;
+use arena::stored::node_at;
+use types::Counters;
+use types::arc_ty::child;
+use types::arc_ty::wide;
+use walks::children::child_at;
+ghost use Prim.Native.Nat.{_<_};
+ghost use mathlib.Core.Path.{_≡_};
+ghost use lib.ListN.{take};
+ghost use Rattle.types.specs.Same.{same-numbers};
+ghost use Rattle.types.specs.Fault.{children-in};
+ghost use Rattle.rebuilding.specs.Rebuilt.{with-child, AsMany, Exchanging, Exchanged, Rebuilding, Rebuilds};
+
+// Whether the items are the children in the words of a node, of which there are as many.
+fn same_children(node: &[u32], items: &[u32; 65], count: usize) -> bool
+    requires { ⌜ AsMany (now node) (now items) count ⌝ }
+    ensures { λ r. ⌜ r ≡ same-numbers (children-in (now (node .entry))) (take count (now (items .entry))) ⌝ }
+{
+    let mut i = 0;
+    while i < count {
+        if child_at(node, i) != items[i] {
+            return false;
+        }
+        i += 1;
+    }
+    true
+}
+
+// A field word or a child word with another child, which stands in its lowest bits.
+fn with_child(word: u32, m: u32) -> u32
+    requires { ⌜ m < 4096 ⌝ }
+    ensures { λ r. ⌜ r ≡ with-child word m ⌝ }
+{
+    word - child(word) + m
+}
+
+// Writes the words of a node into `new`, with the items in place of its children.
+fn exchange(node: &[u32], items: &[u32; 65], count: usize, new: &mut [u32; 66])
+    requires { ⌜ Exchanging (now node) (now items) count (now new) ⌝ }
+    ensures { λ _. ⌜ Exchanged (now (node .entry)) (now (items .entry)) count (now (new .exit)) ⌝ }
+{
+    new[0] = node[0];
+    let mut i = 0;
+    while i < count {
+        let at = i + 1;
+        new[at] = with_child(node[at], items[i]);
+        i = at;
+    }
+}
+
+// Makes the words of node n with these children, of which there is one at least, and interns them.
+fn intern_with(
+    words: &mut [u32],
+    starts: &mut [u32],
+    c: Counters,
+    n: u32,
+    items: &[u32; 65],
+    count: usize,
+) -> Interned
+    requires { ⌜ Rebuilding (now words) (now starts) c n (now items) count ⌝ }
+    requires { ⌜ 0 < count ⌝ }
+    ensures { λ r. ⌜ Rebuilds (now (words .entry)) (now (starts .entry)) c n (now (items .entry)) count (now (words .exit)) (now (starts .exit)) r ⌝ }
+{
+    let mut new = [0u32; 66];
+    exchange(node_at(words, starts, c, wide(n)), items, count, &mut new);
+    let len = count + 1;
+    intern_node(words, starts, c, &new[..len])
+}
+
+// Node n with these children in place of its own. With its own it is node n itself, and no search is needed: most nodes of
+// most passes are of that kind.
+pub fn rebuild(
+    words: &mut [u32],
+    starts: &mut [u32],
+    c: Counters,
+    n: u32,
+    items: &[u32; 65],
+    count: usize,
+) -> Interned
+    requires { ⌜ Rebuilding (now words) (now starts) c n (now items) count ⌝ }
+    ensures { λ r. ⌜ Rebuilds (now (words .entry)) (now (starts .entry)) c n (now (items .entry)) count (now (words .exit)) (now (starts .exit)) r ⌝ }
+{
+    if same_children(node_at(words, starts, c, wide(n)), items, count) {
+        return Interned::Node(n, c);
+    }
+    intern_with(words, starts, c, n, items, count)
+}

@@ -1,0 +1,77 @@
+-- Answers in sequence, and what computed tests say.
+use Prim.Native.Nat.{ℕ}
+use mathlib.Core.Path.{_≡_, refl, sym, ap, ap₂, _∙_}
+use mathlib.Core.Bool.{Bool, true, false, _||_}
+use mathlib.Core.List.{List, [], _∷_, List·Memᴰ as Mem, List·Memᴰ·head as head, List·Memᴰ·tail as tail}
+use mathlib.Core.Logic.{_⊎_, inl, inr}
+use native.Mathlib.Omega.{arith}
+use native.Mathlib.Decide.{ℕ-discrete}
+use Rattle.types.specs.Out.{Out, ok, refuse, _>>=_}
+use Rattle.types.specs.Node.{Polarity-dec, Tag, Tag-dec, form-dec}
+use Rattle.types.proofs.Tests.{true-false, same-true, same-if, same-not}
+use Rattle.simplification.specs.Seen.{same-tag}
+use Rattle.simplification.specs.Pass.{one-of}
+
+pub ok-refuse : {A : Type 0} {x : A} {n : ℕ} → _≡_ {A = Out A} (refuse n) (ok x) → ⊥
+ok-refuse e = let z : _≡_ {A = ℕ} 0 1 = cc in omega arith
+
+pub ok-same : {A : Type 0} {x y : A} → _≡_ {A = Out A} (ok x) (ok y) → x ≡ y
+ok-same e = cc
+
+-- a finished sequence of two steps: both are finished
+pub bind-parts : {A B : Type 0} (o : Out A) (f : A → Out B) {y : B} → (o >>= f) ≡ ok y → (x : A) × (o ≡ ok x) × (f x ≡ ok y)
+unfolding _>>=_
+bind-parts (ok x) f e = (x, refl, e)
+bind-parts (refuse n) f e = absurd (ok-refuse e)
+
+pub bind-ok : {A B : Type 0} (o : Out A) (x : A) (f : A → Out B) → o ≡ ok x → (o >>= f) ≡ f x
+unfolding _>>=_
+bind-ok {A} o x f e = ap (λ (o : Out A). o >>= f) e
+
+-- ---- tests
+pub same-tag-true : (t u : Tag) → same-tag t u ≡ true → t ≡ u
+unfolding same-tag
+same-tag-true = same-true (Tag-dec Polarity-dec ℕ-discrete form-dec)
+
+pub same-tag-if : (t u : Tag) → t ≡ u → same-tag t u ≡ true
+unfolding same-tag
+same-tag-if = same-if (Tag-dec Polarity-dec ℕ-discrete form-dec)
+
+pub same-tag-not : (t u : Tag) → (t ≡ u → ⊥) → same-tag t u ≡ false
+unfolding same-tag
+same-tag-not = same-not (Tag-dec Polarity-dec ℕ-discrete form-dec)
+
+pub same-tag-false : (t u : Tag) → same-tag t u ≡ false → t ≡ u → ⊥
+same-tag-false t u e q = true-false (sym (same-tag-if t u q) ∙ e)
+
+pub or-true : (x y : Bool) → (x || y) ≡ true → (x ≡ true) ⊎ (y ≡ true)
+or-true true y e = inl refl
+or-true false y e = inr e
+
+pub or-left : (x y : Bool) → x ≡ true → (x || y) ≡ true
+or-left x y e = rw e
+
+pub or-right : (x y : Bool) → y ≡ true → (x || y) ≡ true
+or-right true y e = refl
+or-right false y e = e
+
+-- ---- one of a list passes
+module _ {A : Type 0} (p : A → Bool) where
+  pub one-true : (xs : List A) → one-of p xs ≡ true → (x : A) × Mem x xs × (p x ≡ true)
+  unfolding one-of
+  one-true [] e = absurd (true-false (sym e))
+  one-true (x ∷ xs) e = go (or-true (p x) (one-of p xs) e) (one-true xs)
+    where
+      go : (p x ≡ true) ⊎ (one-of p xs ≡ true) → (one-of p xs ≡ true → (y : A) × Mem y xs × (p y ≡ true)) → (y : A) × Mem y (x ∷ xs) × (p y ≡ true)
+      go (inl q) f = (x, head refl, q)
+      go (inr q) f = let r = f q in (r .0, tail (r .1), r .2)
+
+  pub one-if : (xs : List A) (x : A) → Mem x xs → p x ≡ true → one-of p xs ≡ true
+  unfolding one-of
+  one-if (y ∷ ys) x (head e) q = or-left (p y) (one-of p ys) (ap p (sym e) ∙ q)
+  one-if (y ∷ ys) x (tail h) q = or-right (p y) (one-of p ys) (one-if ys x h q)
+
+  pub one-same : (q : A → Bool) (xs : List A) → ((x : A) → Mem x xs → p x ≡ q x) → one-of p xs ≡ one-of q xs
+  unfolding one-of
+  one-same q [] f = refl
+  one-same q (x ∷ xs) f = ap₂ _||_ (f x (head refl)) (one-same q xs (λ y i. f y (tail i)))

@@ -1,0 +1,86 @@
+-- The invariant: the passes made have taken their types, and those to come are as many as the definition has left.
+use Rattle.simplify.proofs.Sequences.{PassTurn, passes-start, passes-range, passes-fits, passes-refused, passes-done, passes-more, passes-ended}
+use borrow.Author.Needs.{needs}
+use Rattle.simplify.proofs.more_passes.Statement.{statement}
+use Rattle.simplify.proofs.more_passes.Tie as tie
+
+abbrev Inv-loop : tie.InvT-loop
+Inv-loop words₀ starts₀ root most made ty₀ last₀ count₀ left₀ words starts ty last count left = PassTurn words₀ starts₀ last₀ root most made words starts ty last count left
+
+abbrev μ-loop : tie.MeasureT-loop
+μ-loop words₀ starts₀ root most made ty₀ last₀ count₀ left₀ words starts ty last count left = left
+
+loop-holds : tie.Need-loop-holds Inv-loop μ-loop
+loop-holds c = search passes-start
+
+simplify-once-requires : tie.Need-simplify-once-requires Inv-loop μ-loop
+simplify-once-requires c κs = search passes-range
+
+enum-known-r : tie.Need-enum-known-r Inv-loop μ-loop
+enum-known-r c = search needs
+
+same-length : tie.Need-same-length Inv-loop μ-loop
+same-length c = search needs
+
+same-length-2 : tie.Need-same-length-2 Inv-loop μ-loop
+same-length-2 c = search needs
+
+returns : tie.Need-returns Inv-loop μ-loop
+returns c = search passes-refused
+
+enum-known-r-2 : tie.Need-enum-known-r-2 Inv-loop μ-loop
+enum-known-r-2 c = search needs
+
+sub-left : tie.Need-sub-left Inv-loop μ-loop
+sub-left c = search needs
+
+add-count : tie.Need-add-count Inv-loop μ-loop
+add-count c = search passes-fits
+
+same-length-3 : tie.Need-same-length-3 Inv-loop μ-loop
+same-length-3 c = search needs
+
+same-length-4 : tie.Need-same-length-4 Inv-loop μ-loop
+same-length-4 c = search needs
+
+returns-2 : tie.Need-returns-2 Inv-loop μ-loop
+returns-2 c = search passes-done
+
+loop-less : tie.Need-loop-less Inv-loop μ-loop
+loop-less c = search needs
+
+loop-again : tie.Need-loop-again Inv-loop μ-loop
+loop-again c = search passes-more
+
+same-length-5 : tie.Need-same-length-5 Inv-loop μ-loop
+same-length-5 c = search needs
+
+same-length-6 : tie.Need-same-length-6 Inv-loop μ-loop
+same-length-6 c = search needs
+
+returns-3 : tie.Need-returns-3 Inv-loop μ-loop
+returns-3 c = search passes-ended
+
+pub more-passes-spec : {M : Type 1} → statement M
+more-passes-spec =
+    tie.close
+    (tie.spec
+    Inv-loop
+    μ-loop
+    loop-holds
+    simplify-once-requires
+    enum-known-r
+    same-length
+    same-length-2
+    returns
+    enum-known-r-2
+    sub-left
+    add-count
+    same-length-3
+    same-length-4
+    returns-2
+    loop-less
+    loop-again
+    same-length-5
+    same-length-6
+    returns-3)

@@ -1,0 +1,113 @@
+// `simplify`: one pass, then more until one changes nothing.
+use arena::added::Interned;
+use arena::sound::Judged;
+use arena::sound::judge;
+use pass::once::simplify_once;
+use types::Counters;
+use types::arc_ty::wide;
+ghost use Rattle.arena.specs.Stored.{Lent, InRange};
+ghost use Rattle.simplify.specs.Simplify.{PassRoom, MorePasses, Simplifies, TakesBack, SimplifiesLent, Promise};
+
+// The passes that may follow the first.
+const MORE_PASSES: u32 = 5;
+
+// The root after, the passes made and the counters, or the number of a refusal.
+pub enum Simplified {
+    Type(u32, u32, Counters),
+    Refused(u32),
+}
+
+// Up to `most` passes, until one changes nothing; `made` were made before.
+fn more_passes(
+    words: &mut [u32],
+    starts: &mut [u32],
+    c: Counters,
+    root: u32,
+    most: u32,
+    made: u32,
+) -> Simplified
+    requires { ⌜ PassRoom (now words) (now starts) c root most made ⌝ }
+    ensures { λ r. ⌜ MorePasses (now (words .entry)) (now (starts .entry)) c root most made (now (words .exit)) (now (starts .exit)) r ⌝ }
+{
+    let mut ty = root;
+    let mut last = c;
+    let mut count = made;
+    let mut left = most;
+    while left > 0 {
+        let r = simplify_once(words, starts, last, ty);
+        match r {
+            Interned::Refused(number) => {
+                return Simplified::Refused(number);
+            }
+            Interned::Node(next, d) => {
+                left -= 1;
+                count += 1;
+                last = d;
+                if next == ty {
+                    return Simplified::Type(ty, count, last);
+                }
+                ty = next;
+            }
+        }
+    }
+    Simplified::Type(ty, count, last)
+}
+
+// All passes, in an arena that is known to be sound and has the root. A refusal leaves the nodes that were added.
+fn simplify_in(words: &mut [u32], starts: &mut [u32], c: Counters, root: u32) -> Simplified
+    requires { ⌜ InRange (now words) (now starts) c root ⌝ }
+    ensures { λ r. ⌜ Simplifies (now (words .entry)) (now (starts .entry)) c root (now (words .exit)) (now (starts .exit)) r ⌝ }
+{
+    let r = simplify_once(words, starts, c, root);
+    match r {
+        Interned::Refused(number) => Simplified::Refused(number),
+        Interned::Node(m, d) => more_passes(words, starts, d, m, MORE_PASSES, 1),
+    }
+}
+
+// Clears what stands from a place on.
+fn take_back(words: &mut [u32], from: usize)
+    ensures { λ _. ⌜ TakesBack (now (words .entry)) from (now (words .exit)) ⌝ }
+{
+    let mut i = from;
+    while i < words.len() {
+        words[i] = 0;
+        i += 1;
+    }
+}
+
+// The same for any root; a refusal takes back the nodes that were added.
+fn simplify_lent(words: &mut [u32], starts: &mut [u32], c: Counters, root: u32) -> Simplified
+    requires { ⌜ Lent (now words) (now starts) c ⌝ }
+    ensures { λ r. ⌜ SimplifiesLent (now (words .entry)) (now (starts .entry)) c root (now (words .exit)) (now (starts .exit)) r ⌝ }
+{
+    if wide(root) >= c.nodes {
+        return Simplified::Refused(6);
+    }
+    let r = simplify_in(words, starts, c, root);
+    match r {
+        Simplified::Type(n, made, d) => Simplified::Type(n, made, d),
+        Simplified::Refused(number) => {
+            take_back(words, c.words);
+            take_back(starts, c.nodes);
+            Simplified::Refused(number)
+        }
+    }
+}
+
+// What the type of the root becomes.
+pub fn simplify(
+    table: &[u8],
+    words: &mut [u32],
+    starts: &mut [u32],
+    c: Counters,
+    root: u32,
+) -> Simplified
+    ensures { λ r. ⌜ Promise (now (table .entry)) (now (words .entry)) (now (starts .entry)) c root (now (words .exit)) (now (starts .exit)) r ⌝ }
+{
+    let lent = judge(table, words, starts, c);
+    match lent {
+        Judged::Names(count) => simplify_lent(words, starts, c, root),
+        Judged::Refused(number) => Simplified::Refused(number),
+    }
+}
