@@ -42,7 +42,7 @@ other-vars neg f vs = refl
 other-vars (form x) f vs = refl
 
 -- a variable has no children
-var-alone : (x : Node) (v : ℕ) → formed x ≡ true → tag x ≡ var v → x ≡ node (var v) []
+pub var-alone : (x : Node) (v : ℕ) → formed x ≡ true → tag x ≡ var v → x ≡ node (var v) []
 unfolding body-count child-words
 var-alone (node t cs) v e q = ap (λ (s : Tag). node s cs) q ∙ ap (node (var v)) (nil cs (omega (arith, eqb-true (suc (length cs)) 1 (formed-parts (var v) cs (rw q at e) .counted))))
 

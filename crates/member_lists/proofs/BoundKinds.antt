@@ -1,17 +1,24 @@
 -- The number of its kind tells a member list, and a bound, from every other node. The kinds of a list's bounds.
 use Prim.Native.Nat.{ℕ}
 use mathlib.Core.Path.{_≡_, refl, sym, ap, _∙_, subst}
+use mathlib.Core.Bool.{true, false, _||_}
 use mathlib.Core.List.{List}
+use mathlib.Core.Logic.{⊎-elim}
 use mathlib.Core.Option.{Option, none, some}
 use native.Mathlib.Omega.{arith}
+use lib.Dec.{eqb}
+use borrow.Author.Tests.{eqb-true}
 use Rattle.types.specs.Kind as kinds
 use Rattle.types.specs.Kind.{Kind, disc, kind-of}
 use Rattle.types.specs.Node.{Polarity, positive, negative, Tag, members, bound, var, neg, form, primitive, list, lambda, attrset, named, kind}
 use Rattle.types.specs.Places.{opposite}
 use Rattle.types.specs.declared.Counters.{Counters}
 use Rattle.types.proofs.KindNumbers.{kind-of-disc}
+use Rattle.types.proofs.Tests.{true-false}
 use Rattle.arena.specs.Stored.{InRange}
 use Rattle.walks.specs.Nodes.{KindAt}
+use Rattle.simplification.specs.Pass.{list-kind}
+use Rattle.simplification.proofs.Answers.{or-true}
 use Rattle.member_lists.specs.Members.{NeutralOf, DecidingOf}
 
 -- the only tag of a kind, where the tag is a member list's or a bound's
@@ -57,6 +64,20 @@ pub bound-told : (t : Tag) (k : Polarity) → disc (kind t) ≡ disc (kind (boun
 unfolding only-tag
 bound-told t positive e = told t (bound positive) refl e
 bound-told t negative e = told t (bound negative) refl e
+
+-- the tags of kind 7 and 8 are those of member lists
+pub list-tag : (t : Tag) → (eqb (disc (kind t)) 7 || eqb (disc (kind t)) 8) ≡ true → (k : Polarity) × (t ≡ members k)
+list-tag t e =
+    ⊎-elim (λ q. (positive, list-told t positive (eqb-true (disc (kind t)) 7 q))) (λ q. (negative, list-told t negative (eqb-true (disc (kind t)) 8 q)))
+    (or-true (eqb (disc (kind t)) 7) (eqb (disc (kind t)) 8) e)
+
+pub other-tag : (t : Tag) → (eqb (disc (kind t)) 7 || eqb (disc (kind t)) 8) ≡ false → list-kind t ≡ none
+other-tag (members positive) e = absurd (true-false e)
+other-tag (members negative) e = absurd (true-false e)
+other-tag (bound k) e = refl
+other-tag (var v) e = refl
+other-tag neg e = refl
+other-tag (form f) e = refl
 
 -- ---- the side of a kind of list
 module _ (number : ℕ) where

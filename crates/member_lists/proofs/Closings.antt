@@ -22,10 +22,12 @@ use Rattle.arena.specs.Intern.{intern, left}
 use Rattle.arena.specs.declared.added.Interned.{Interned}
 use Rattle.arena.specs.declared.added.Interned.the-variants as interned
 use Rattle.arena.proofs.Additions.{finished}
-use Rattle.simplification.specs.Pass.{Job, member-list, close, gather}
-use Rattle.simplification.proofs.Members.{each-member, member-below, decided-if}
-use Rattle.simplification.proofs.Becoming.{At, Inside, node-is, brought-inside}
-use Rattle.simplification.proofs.Rebuilding.{intern-there}
+use Rattle.recursion.specs.Jobs.{Job}
+use Rattle.recursion.proofs.Interning.{At, node-is, intern-there}
+use Rattle.recursion.proofs.Members.{each-member, member-below}
+use Rattle.simplification.specs.Pass.{member-list, close, gather}
+use Rattle.simplification.proofs.Members.{decided-if}
+use Rattle.simplification.proofs.Becoming.{Inside, brought-inside}
 use Rattle.simplification.proofs.Applying.{gather-decided, gather-open}
 use Rattle.member_lists.specs.Members.{grown-out, Gathering, Flattening, Flattens, Decides, Listing, Filled, InternsList, Finishes, ClosesOpen}
 use Rattle.member_lists.specs.Closed.{Closing, ClosesTo, done, emptied, Closes}
@@ -46,7 +48,7 @@ module _ (items : List ℕ) (count : ℕ) where
   items-all l = sym (take-all count items l)
 
 -- a number that was there before
-stands : {table : ℕ} {w s : List ℕ} {c : Counters} {a : Arena} (n : ℕ) → Holds table w s c a → left c (interned.Node n c) w s ≡ reply-of w s c (ok (n, a))
+pub stands : {table : ℕ} {w s : List ℕ} {c : Counters} {a : Arena} (n : ℕ) → Holds table w s c a → left c (interned.Node n c) w s ≡ reply-of w s c (ok (n, a))
 unfolding reply-of
 stands {w = w} {s = s} {a = a} n H = finished a (length w) (length s) refl (H .nodes) (H .total) (H .words) (H .starts)
 

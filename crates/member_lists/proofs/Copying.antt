@@ -12,9 +12,10 @@ use borrow.Author.Count.{below-more}
 use borrow.Author.Tests.{eqb-true, eq-eqb, lt-ltb, le-ltb}
 use Rattle.types.specs.Out.{Out, ok, refuse, _>>=_}
 use Rattle.types.proofs.Tests.{not-true}
+use Rattle.recursion.proofs.Answers.{bind-ok}
+use Rattle.recursion.proofs.Members.{index-of, member-at}
 use Rattle.simplification.specs.Pass.{one-of, append, first-copies}
-use Rattle.simplification.proofs.Answers.{bind-ok, one-true, one-if}
-use Rattle.simplification.proofs.Members.{index-of, member-at}
+use Rattle.simplification.proofs.Answers.{one-true, one-if}
 use Rattle.member_lists.specs.Members.{Room, Grows}
 use Rattle.member_lists.specs.declared.growing.Grown.{Grown}
 use Rattle.member_lists.specs.declared.growing.Grown.the-variants as grown

@@ -15,8 +15,9 @@ use Rattle.types.proofs.Tests.{not-true}
 use Rattle.types.proofs.Lists.{below-at}
 use Rattle.arena.specs.Stored.{InRange}
 use Rattle.walks.specs.Nodes.{KindAt}
+use Rattle.recursion.proofs.Members.{index-of, member-at}
 use Rattle.simplification.specs.Pass.{is-decided}
-use Rattle.simplification.proofs.Members.{index-of, member-at, decided-by}
+use Rattle.simplification.proofs.Members.{decided-by}
 use Rattle.member_lists.specs.Members.{DecidingOf, Gathering, Decides}
 use Rattle.member_lists.specs.declared.Decision.the-variants as decision
 use Rattle.member_lists.proofs.BoundKinds.{bound-told}

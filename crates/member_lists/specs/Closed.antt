@@ -14,7 +14,8 @@ use Rattle.types.specs.declared.Counters.{Counters}
 use Rattle.arena.specs.Stored.{Lent}
 use Rattle.arena.specs.Intern.{left}
 use Rattle.arena.specs.declared.added.Interned.{Interned}
-use Rattle.simplification.specs.Pass.{Job, gather}
+use Rattle.recursion.specs.Jobs.{Job}
+use Rattle.simplification.specs.Pass.{gather}
 use Rattle.member_lists.specs.declared.Closed.{Closed}
 use Rattle.member_lists.specs.declared.Closed.the-variants as closed
 

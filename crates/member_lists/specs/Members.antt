@@ -15,7 +15,8 @@ use Rattle.types.specs.declared.Counters.{Counters}
 use Rattle.arena.specs.Stored.{Lent, InRange}
 use Rattle.arena.specs.Intern.{intern, left}
 use Rattle.arena.specs.declared.added.Interned.{Interned}
-use Rattle.simplification.specs.Pass.{Job, is-decided, splice, first-copies, member-list, close}
+use Rattle.recursion.specs.Jobs.{Job}
+use Rattle.simplification.specs.Pass.{is-decided, splice, first-copies, member-list, close}
 use Rattle.member_lists.specs.Closed.{ClosesTo}
 use Rattle.member_lists.specs.declared.Closed.{Closed}
 use Rattle.member_lists.specs.declared.Decision.{Decision}

@@ -15,7 +15,7 @@ ghost use Rattle.simplification.specs.Pass.{one-of};
 ghost use Rattle.member_lists.specs.Members.{Room, Grows, Splicing, Flattening, Flattens};
 
 // How many members the list has, or that a 65th has no room.
-pub(crate) enum Grown {
+pub enum Grown {
     Count(usize),
     Full,
 }
@@ -36,7 +36,7 @@ fn is_among(items: &[u32; 64], count: usize, n: u32) -> bool
 }
 
 // Appends n, unless it is there.
-fn append(items: &mut [u32; 64], count: usize, n: u32) -> Grown
+pub fn append(items: &mut [u32; 64], count: usize, n: u32) -> Grown
     requires { ⌜ Room (now items) count ⌝ }
     ensures { λ r. ⌜ Grows (now (items .entry)) count (n ∷ []) (now (items .exit)) r ⌝ }
 {
@@ -51,7 +51,7 @@ fn append(items: &mut [u32; 64], count: usize, n: u32) -> Grown
 }
 
 // Appends the children in the words of a node.
-fn append_children(node: &[u32], items: &mut [u32; 64], count: usize) -> Grown
+pub fn append_children(node: &[u32], items: &mut [u32; 64], count: usize) -> Grown
     requires { ⌜ Room (now items) count ⌝ }
     ensures { λ r. ⌜ Grows (now (items .entry)) count (children-in (now (node .entry))) (now (items .exit)) r ⌝ }
 {

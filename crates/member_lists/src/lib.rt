@@ -1,6 +1,6 @@
 // What becomes of a union or an intersection, from its members as simplified. Both are one code over the number of their kind.
 mod bounds;
-mod growing;
+pub mod growing;
 
 use crate::bounds::deciding;
 use crate::bounds::kind_of;
@@ -77,7 +77,7 @@ fn node_words(head: u32, list: Members) -> [u32; 65]
 }
 
 // The number of the node of a kind that has these members.
-fn intern_list(
+pub fn intern_list(
     words: &mut [u32],
     starts: &mut [u32],
     c: Counters,

@@ -61,7 +61,7 @@ fn good_name(name: &[u8]) -> bool
 }
 
 // Whether a name with this length byte may follow the last one.
-fn follows(last: &[u8], length: u8, name: &[u8]) -> bool
+pub fn follows(last: &[u8], length: u8, name: &[u8]) -> bool
     ensures { λ r. ⌜ r ≡ may-follow (now (last .entry)) length (now (name .entry)) ⌝ }
 {
     if wide(length) != name.len() {

@@ -146,7 +146,7 @@ fn body_of<'a>(node: &'a [u32]) -> &'a [u32]
 }
 
 // How many of so many body words are field words: in a set all but the dynamic part, in a `Named` all.
-fn field_count(head: Head, count: usize) -> usize
+pub fn field_count(head: Head, count: usize) -> usize
     ensures { λ r. ⌜ FieldCount (head .word) count r ⌝ }
 {
     let kind = head.kind();

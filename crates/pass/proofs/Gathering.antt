@@ -23,9 +23,11 @@ use Rattle.arena.specs.Intern.{left}
 use Rattle.arena.specs.declared.added.Interned.{Interned}
 use Rattle.arena.specs.declared.added.Interned.the-variants as interned
 use Rattle.arena.proofs.Interning.{done, done-ext}
-use Rattle.simplification.specs.Pass.{no-variable, remaining, is-decided, member-list, Job, each, list-kind, close, gather, apply}
-use Rattle.simplification.proofs.Answers.{ok-same, bind-parts}
-use Rattle.simplification.proofs.Members.{index-of, member-below, remaining-from}
+use Rattle.recursion.specs.Jobs.{Job, each}
+use Rattle.recursion.proofs.Answers.{ok-same, bind-parts}
+use Rattle.recursion.proofs.Members.{index-of, member-below}
+use Rattle.simplification.specs.Pass.{no-variable, remaining, is-decided, member-list, list-kind, close, gather, apply}
+use Rattle.simplification.proofs.Members.{remaining-from}
 use Rattle.simplification.proofs.Rebuilding.{has-member}
 use Rattle.simplification.proofs.Applying.{apply-kept, apply-at, step-list, gather-decided, gather-open}
 use Rattle.simplification.proofs.Running.{apply-sound}

@@ -4,43 +4,26 @@ use mathlib.Core.Path.{_≡_, refl, sym, ap, _∙_, subst}
 use mathlib.Core.Bool.{Bool, true}
 use mathlib.Core.List.{List}
 use native.Mathlib.Omega.{arith}
-use lib.ListN.{length, take, length-append}
-use lib.Seq.{take-take, take-at}
+use lib.ListN.{length, take}
 use Rattle.types.specs.Out.{Out, ok, refuse}
 use Rattle.types.specs.Node.{below}
 use Rattle.types.specs.Arena.{Arena, sound, Ext}
-use Rattle.types.specs.Memory.{flat, heads, words-of, starts-of, counters-of, Holds}
+use Rattle.types.specs.Memory.{words-of, starts-of, counters-of, Holds}
 use Rattle.types.specs.Reply.{reply-of}
 use Rattle.types.specs.declared.Counters.{Counters}
 use Rattle.types.proofs.Growth.{ext-length, ext-trans}
-use Rattle.types.proofs.Addresses.{length-heads, ext-flat, ext-heads}
 use Rattle.arena.specs.Intern.{left}
 use Rattle.arena.specs.declared.added.Interned.{Interned}
 use Rattle.arena.specs.declared.added.Interned.the-variants as interned
+use Rattle.recursion.specs.Work.{Stands}
+use Rattle.recursion.proofs.Leading.{stands-ext, holds-stands, Stopped}
 use Rattle.simplification.proofs.Caching.{cache-law}
 use Rattle.rebuilding.specs.Children.{setting}
 use Rattle.pass.specs.Caches.{Hit, Caches}
-use Rattle.pass.specs.Applied.{Stands, Leads, done, stop, LeadsEach}
+use Rattle.pass.specs.Applied.{Leads, done, stop, LeadsEach}
 use Rattle.pass.specs.Applied as applied
 use Rattle.pass.specs.declared.apply.Run.{Run}
 use Rattle.pass.specs.declared.apply.Run.the-variants as run
-
--- ---- what stands
-pub stands-ext : {a b : Arena} {w s : List ℕ} → Ext a b → Stands w s b → Stands w s a
-stands-ext {a} {b} {w} {s} E S =
-    let F = ext-flat E in
-    let P = ext-heads E in
-    let l : length (flat a) ≤ length (flat b) = let q = ap length (F .is) ∙ length-append (flat a) (F .rest) in omega (arith, q) in
-    record {
-      words = sym (take-take (length (flat a)) (length (flat b)) w l) ∙ ap (take (length (flat a))) (S .words ∙ F .is) ∙ take-at (flat a) (F .rest) (length (flat a)) refl;
-      starts = sym (take-take (length a) (length b) s (ext-length a b E)) ∙ ap (take (length a)) (S .starts ∙ P .is) ∙ take-at (heads a) (P .rest) (length a) (length-heads a);
-    }
-
-pub holds-stands : {table : ℕ} {a : Arena} {w s : List ℕ} {c : Counters} → Holds table w s c a → Stands w s a
-holds-stands {a = a} H = record {
-  words = ap (take (length (flat a))) (H .words) ∙ take-at (flat a) _ (length (flat a)) refl;
-  starts = ap (take (length a)) (H .starts) ∙ take-at (heads a) _ (length a) (length-heads a);
-}
 
 -- ---- the caches in a grown arena
 pub caches-kept : (table : ℕ) {lw ls : ℕ} {R : ℕ → Bool} {a b : Arena} {dropped kept : List ℕ} → ls ≤ 4096 → sound table a ≡ true → sound table b ≡ true → Ext a b → Caches lw ls R a dropped kept → Caches lw ls R b dropped kept
@@ -65,10 +48,6 @@ pub record Done (table : ℕ) (a : Arena) (R : ℕ → Bool) (w s dropped kept :
   pub ext : Ext a arena
   pub low : m < length arena
   pub caches : Caches (length w) (length s) R arena dropped kept
-
-pub record Stopped (a : Arena) (w s : List ℕ) (e : ℕ) {A : Type 0} (o : Out A) : Type 0 where
-  pub is : o ≡ refuse e
-  pub stands : Stands w s a
 
 module _ {table : ℕ} {a : Arena} {R : ℕ → Bool} {w s dropped kept : List ℕ} where
   pub leads-done : {r : Interned} {o : Out (ℕ × Arena)} {m : ℕ} {d : Counters} → Leads table a R w s dropped kept r o → r ≡ interned.Node m d → Done table a R w s dropped kept m d o

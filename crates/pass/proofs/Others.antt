@@ -1,6 +1,6 @@
 -- A node: which half goes on, and, where it is no member list, its children and then the node with what they became.
 use Prim.Native.Nat.{ℕ, _+_, _*_, _<_}
-use mathlib.Core.Path.{_≡_, refl, sym, ap, _∙_, subst}
+use mathlib.Core.Path.{_≡_, sym, ap, _∙_, subst}
 use mathlib.Core.Bool.{Bool, true, false, _||_}
 use mathlib.Core.List.{List}
 use mathlib.Core.Option.{none}
@@ -10,22 +10,23 @@ use lib.Seq.{length-take-le}
 use lib.Dec.{eqb}
 use Rattle.types.specs.Out.{Out, _>>=_}
 use Rattle.types.specs.Kind.{disc}
-use Rattle.types.specs.Node.{Polarity, positive, negative, Tag, members, bound, var, neg, form, primitive, list, lambda, attrset, named, Node, node, tag, kind, children, below}
+use Rattle.types.specs.Node.{Tag, Node, node, tag, kind, children, below}
 use Rattle.types.specs.Arena.{Arena, at, here}
 use Rattle.types.specs.Memory.{Holds}
 use Rattle.types.specs.declared.Counters.{Counters}
 use Rattle.types.proofs.Growth.{ext-length, ext-at}
 use Rattle.types.proofs.Sound.{children-below}
-use Rattle.types.proofs.Tests.{true-false}
 use Rattle.arena.specs.Stored.{InRange}
 use Rattle.arena.specs.Intern.{intern}
 use Rattle.arena.specs.declared.added.Interned.{Interned}
 use Rattle.arena.specs.declared.added.Interned.the-variants as interned
 use Rattle.arena.proofs.Interning.{done, done-ext}
 use Rattle.walks.specs.Nodes.{KindAt}
-use Rattle.simplification.specs.Pass.{Job, each, list-kind, rebuild, apply}
+use Rattle.recursion.specs.Jobs.{Job, each, rebuild}
+use Rattle.simplification.specs.Pass.{list-kind, apply}
 use Rattle.simplification.proofs.Applying.{apply-at, step-other}
 use Rattle.simplification.proofs.Running.{apply-sound}
+use Rattle.member_lists.proofs.BoundKinds.{list-tag, other-tag}
 use Rattle.rebuilding.specs.Children.{setting, Agrees, AllChildren}
 use Rattle.rebuilding.specs.Rebuilt.{Rebuilding, Rebuilds}
 use Rattle.pass.specs.Caches.{Caches}
@@ -34,28 +35,6 @@ use Rattle.rebuilding.specs.declared.children.Children.{Children}
 use Rattle.pass.specs.declared.apply.Run.{Run}
 use Rattle.pass.specs.declared.apply.Run.the-variants as run
 use Rattle.pass.proofs.Leading.{stop-leads, EachDone, each-done, each-stop, reply-leads}
-
--- ---- which kind it is
--- the tags of kind 7 and 8 are those of member lists
-list-tag : (t : Tag) → (eqb (disc (kind t)) 7 || eqb (disc (kind t)) 8) ≡ true → (k : Polarity) × (t ≡ members k)
-list-tag (members k) e = (k, refl)
-list-tag (bound positive) e = absurd (true-false (sym e))
-list-tag (bound negative) e = absurd (true-false (sym e))
-list-tag (var v) e = absurd (true-false (sym e))
-list-tag neg e = absurd (true-false (sym e))
-list-tag (form (primitive c)) e = absurd (true-false (sym e))
-list-tag (form list) e = absurd (true-false (sym e))
-list-tag (form lambda) e = absurd (true-false (sym e))
-list-tag (form (attrset fs d o)) e = absurd (true-false (sym e))
-list-tag (form (named n)) e = absurd (true-false (sym e))
-
-other-tag : (t : Tag) → (eqb (disc (kind t)) 7 || eqb (disc (kind t)) 8) ≡ false → list-kind t ≡ none
-other-tag (members positive) e = absurd (true-false e)
-other-tag (members negative) e = absurd (true-false e)
-other-tag (bound k) e = refl
-other-tag (var v) e = refl
-other-tag neg e = refl
-other-tag (form f) e = refl
 
 module _ {w s : List ℕ} {c : Counters} {n : ℕ} {removable dropped kept : List ℕ} (P : Ready w s c n removable dropped kept) where
   pub ready-range : InRange w s c n

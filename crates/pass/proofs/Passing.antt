@@ -1,5 +1,5 @@
 -- A pass over the type of a root: the set of one-signed nodes has the variables that the definition removes, and empty caches are right.
-use Prim.Native.Nat.{ℕ, zero, suc, _<_}
+use Prim.Native.Nat.{ℕ, _<_}
 use mathlib.Core.Path.{_≡_, refl, sym, ap, _∙_, subst}
 use mathlib.Core.Bool.{Bool, true, false, xor}
 use mathlib.Core.List.{List}
@@ -16,6 +16,8 @@ use Rattle.arena.specs.Stored.{InRange}
 use Rattle.arena.specs.declared.added.Interned.{Interned}
 use Rattle.walks.specs.Removable.{Removable, OneSigned, OneSignedIn}
 use Rattle.walks.proofs.OneSigns.{one-signed-removable}
+use Rattle.recursion.specs.Hosted.{LeadsOnce, done, stop}
+use Rattle.recursion.proofs.Remembering.{zero-at}
 use Rattle.simplification.specs.Seen.{sees, one-signed}
 use Rattle.simplification.specs.Pass.{pass}
 use Rattle.simplification.proofs.Seeing.{seen-occurs, one-signed-only, only-one-signed}
@@ -23,12 +25,7 @@ use Rattle.rebuilding.specs.Children.{Agrees}
 use Rattle.pass.specs.Caches.{entries, Caches}
 use Rattle.pass.specs.Applied.{Leads, Ready, Applies}
 use Rattle.pass.specs.Applied as applied
-use Rattle.pass.specs.Once.{LeadsOnce, SimplifiesOnce, done, stop}
-
-zero-at : (k n : ℕ) → _≡_ {A = ℕ} (getD (replicate k 0) n 0) 0
-zero-at zero n = refl
-zero-at (suc k) zero = refl
-zero-at (suc k) (suc n) = zero-at k n
+use Rattle.pass.specs.Once.{SimplifiesOnce}
 
 -- ---- the set has the nodes of the variables that the definition removes
 module _ (table : ℕ) (a : Arena) (h : sound table a ≡ true) (root : ℕ) (l : root < length a) (v : ℕ) where

@@ -6,46 +6,29 @@ use mathlib.Core.List.{List, [], _∷_, _++_, append-assoc, append-nil}
 use native.Mathlib.Omega.{arith}
 use lib.ListN.{length, getD, take, drop, set, length-set, length-append, drop-of-length-le}
 use lib.Seq.{drop-cons, getD-take, take-set-lt, length-take-le, getD-at, set-at}
-use borrow.Author.Tests.{lt-ltb}
 use Rattle.types.specs.Out.{Out, ok, refuse, _>>=_}
 use Rattle.types.specs.Node.{tag, below}
 use Rattle.types.specs.Arena.{Arena, Ext, here}
 use Rattle.types.specs.Memory.{Holds}
 use Rattle.types.specs.declared.Counters.{Counters}
 use Rattle.types.proofs.Growth.{ext-length, ext-trans, ext-at}
-use Rattle.types.proofs.Lists.{below-at, below-more, below-cons}
+use Rattle.types.proofs.Lists.{below-at, below-more}
 use Rattle.arena.specs.declared.added.Interned.{Interned}
 use Rattle.arena.specs.declared.added.Interned.the-variants as interned
-use Rattle.simplification.specs.Pass.{Job, each, apply}
+use Rattle.recursion.specs.Jobs.{Job, each}
+use Rattle.simplification.specs.Pass.{apply}
 use Rattle.simplification.proofs.Applying.{apply-kept}
 use Rattle.rebuilding.specs.Children.{setting, Agrees}
 use Rattle.pass.specs.Caches.{Caches}
 use Rattle.pass.specs.Applied.{Leads, Ready, Applies, EachReady, LeadsEach, went, stop, AppliesEach}
 use Rattle.pass.specs.declared.apply.Run.the-variants as run
-use Rattle.pass.proofs.Leading.{stands-ext, leads-done, leads-stop}
+use Rattle.recursion.proofs.Leading.{stands-ext}
+use Rattle.recursion.proofs.Turns.{below-snoc, after, after-none, after-more}
+use Rattle.pass.proofs.Leading.{leads-done, leads-stop}
 
 -- the variables below a node are those of a grown arena
 pub agrees-kept : {removable : List ℕ} {R : ℕ → Bool} {a b : Arena} {n x : ℕ} → Ext a b → n ≤ length a → x ≤ n → Agrees removable R a n → Agrees removable R b x
 agrees-kept {a = a} {b} E l k A = record { is = λ u v j e. A .is u v (omega (arith, j, k)) (ap tag (sym (ext-at a b E u (omega (arith, j, k, l)))) ∙ e) }
-
-below-snoc : (n : ℕ) (cs : List ℕ) (m : ℕ) → below n cs ≡ true → m < n → below n (cs ++ (m ∷ [])) ≡ true
-unfolding below
-below-snoc n [] m e l = rw (lt-ltb m n l)
-below-snoc n (c ∷ cs) m e l = let p = below-cons n c cs e in rw (lt-ltb c n (p .0)) (below-snoc n cs m (p .1) l)
-
--- what is still to come, after the items done
-abbrev after : List ℕ → Out (List ℕ × Arena) → Out (List ℕ × Arena)
-after ms o = o >>= λ (q : List ℕ × Arena). ok (ms ++ q .0, q .1)
-
-after-none : (o : Out (List ℕ × Arena)) → o ≡ after [] o
-unfolding _>>=_
-after-none (ok q) = refl
-after-none (refuse e) = refl
-
-after-more : (ms : List ℕ) (m : ℕ) (o : Out (List ℕ × Arena)) → after ms (o >>= λ (q : List ℕ × Arena). ok (m ∷ q .0, q .1)) ≡ after (ms ++ (m ∷ [])) o
-unfolding _>>=_
-after-more ms m (ok q) = ap (λ (l : List ℕ). ok (l, q .1)) (sym (append-assoc ms (m ∷ []) (q .0)))
-after-more ms m (refuse e) = refl
 
 -- what is known of the turn i in one arena
 pub record TurnIn (table : ℕ) (a : Arena) (R : ℕ → Bool) (f : ℕ → Job) (cs w s dropped kept items : List ℕ) (count : ℕ) (last : Counters) (i : ℕ) : Type 0 where

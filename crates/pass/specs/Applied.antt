@@ -8,21 +8,18 @@ use Rattle.types.specs.Out.{Out, ok, refuse}
 use Rattle.types.specs.Kind.{disc}
 use Rattle.types.specs.Node.{Polarity, members, tag, kind, children, below}
 use Rattle.types.specs.Arena.{Arena, at, Ext}
-use Rattle.types.specs.Memory.{flat, heads, Holds}
+use Rattle.types.specs.Memory.{Holds}
 use Rattle.types.specs.declared.Counters.{Counters}
 use Rattle.arena.specs.Stored.{Lent}
 use Rattle.arena.specs.declared.added.Interned.{Interned}
 use Rattle.arena.specs.declared.added.Interned.the-variants as interned
-use Rattle.simplification.specs.Pass.{each, apply}
+use Rattle.recursion.specs.Jobs.{each}
+use Rattle.recursion.specs.Work.{Stands}
+use Rattle.simplification.specs.Pass.{apply}
 use Rattle.rebuilding.specs.Children.{setting, Agrees}
 use Rattle.pass.specs.Caches.{Caches}
 use Rattle.pass.specs.declared.apply.Run.{Run}
 use Rattle.pass.specs.declared.apply.Run.the-variants as run
-
--- what stood in memory still stands, whatever follows it
-pub record Stands (w s : List ℕ) (a : Arena) : Type 0 where
-  pub words : take (length (flat a)) w ≡ flat a
-  pub starts : take (length a) s ≡ heads a
 
 -- an outcome, from memory that held a: finished, it holds what grew from a, and the caches are right there; refused, a still stands in it
 pub data Leads (table : ℕ) (a : Arena) (R : ℕ → Bool) (w s dropped kept : List ℕ) : Interned → Out (ℕ × Arena) → Type 0 where

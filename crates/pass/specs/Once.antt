@@ -1,20 +1,14 @@
 -- One pass over the type of a root: what the function answers.
-use Prim.Native.Nat.{ℕ, _<_}
+use Prim.Native.Nat.{ℕ}
 use mathlib.Core.List.{List}
 use lib.ListN.{length}
-use Rattle.types.specs.Out.{Out, ok, refuse}
-use Rattle.types.specs.Arena.{Arena, Ext}
+use Rattle.types.specs.Arena.{Arena}
 use Rattle.types.specs.Memory.{Holds}
 use Rattle.types.specs.declared.Counters.{Counters}
 use Rattle.arena.specs.declared.added.Interned.{Interned}
 use Rattle.arena.specs.declared.added.Interned.the-variants as interned
 use Rattle.simplification.specs.Pass.{pass}
-use Rattle.pass.specs.Applied.{Stands}
-
--- an outcome, from memory that held a: finished, it holds what grew from a; refused, a still stands in it
-pub data LeadsOnce (table : ℕ) (a : Arena) (w s : List ℕ) : Interned → Out (ℕ × Arena) → Type 0 where
-  done : {m : ℕ} {d : Counters} {b : Arena} → Holds table w s d b → Ext a b → m < length b → LeadsOnce table a w s (interned.Node m d) (ok (m, b))
-  stop : {e : ℕ} → Stands w s a → LeadsOnce table a w s (interned.Refused e) (refuse e)
+use Rattle.recursion.specs.Hosted.{LeadsOnce}
 
 -- the outcome is that of the defined pass
 pub record SimplifiesOnce (w s : List ℕ) (c : Counters) (root : ℕ) (w′ s′ : List ℕ) (r : Interned) : Type 0 where

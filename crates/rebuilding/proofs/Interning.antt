@@ -26,8 +26,7 @@ use Rattle.arena.specs.Added.{Fresh, Interns}
 use Rattle.arena.specs.declared.added.Interned.{Interned}
 use Rattle.arena.specs.declared.added.Interned.the-variants as interned
 use Rattle.arena.proofs.Additions.{finished}
-use Rattle.simplification.proofs.Becoming.{node-is}
-use Rattle.simplification.proofs.Rebuilding.{well-again, intern-there}
+use Rattle.recursion.proofs.Interning.{node-is, well-again, intern-there}
 use Rattle.rebuilding.specs.Rebuilt.{AsMany, Exchanging, Exchanged, Rebuilding, Rebuilds}
 use Rattle.rebuilding.proofs.Copying.{children-read, few-read}
 use Rattle.rebuilding.proofs.Exchanging.{length-given, exchanged-encode}

@@ -37,7 +37,7 @@ fn with_child(word: u32, m: u32) -> u32
 }
 
 // Writes the words of a node into `new`, with the items in place of its children.
-fn exchange(node: &[u32], items: &[u32; 65], count: usize, new: &mut [u32; 66])
+pub fn exchange(node: &[u32], items: &[u32; 65], count: usize, new: &mut [u32; 66])
     requires { ⌜ Exchanging (now node) (now items) count (now new) ⌝ }
     ensures { λ _. ⌜ Exchanged (now (node .entry)) (now (items .entry)) count (now (new .exit)) ⌝ }
 {

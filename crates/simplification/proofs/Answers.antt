@@ -1,32 +1,13 @@
--- Answers in sequence, and what computed tests say.
-use Prim.Native.Nat.{ℕ}
+-- What computed tests say.
 use mathlib.Core.Path.{_≡_, refl, sym, ap, ap₂, _∙_}
 use mathlib.Core.Bool.{Bool, true, false, _||_}
 use mathlib.Core.List.{List, [], _∷_, List·Memᴰ as Mem, List·Memᴰ·head as head, List·Memᴰ·tail as tail}
 use mathlib.Core.Logic.{_⊎_, inl, inr}
-use native.Mathlib.Omega.{arith}
 use native.Mathlib.Decide.{ℕ-discrete}
-use Rattle.types.specs.Out.{Out, ok, refuse, _>>=_}
 use Rattle.types.specs.Node.{Polarity-dec, Tag, Tag-dec, form-dec}
 use Rattle.types.proofs.Tests.{true-false, same-true, same-if, same-not}
 use Rattle.simplification.specs.Seen.{same-tag}
 use Rattle.simplification.specs.Pass.{one-of}
-
-pub ok-refuse : {A : Type 0} {x : A} {n : ℕ} → _≡_ {A = Out A} (refuse n) (ok x) → ⊥
-ok-refuse e = let z : _≡_ {A = ℕ} 0 1 = cc in omega arith
-
-pub ok-same : {A : Type 0} {x y : A} → _≡_ {A = Out A} (ok x) (ok y) → x ≡ y
-ok-same e = cc
-
--- a finished sequence of two steps: both are finished
-pub bind-parts : {A B : Type 0} (o : Out A) (f : A → Out B) {y : B} → (o >>= f) ≡ ok y → (x : A) × (o ≡ ok x) × (f x ≡ ok y)
-unfolding _>>=_
-bind-parts (ok x) f e = (x, refl, e)
-bind-parts (refuse n) f e = absurd (ok-refuse e)
-
-pub bind-ok : {A B : Type 0} (o : Out A) (x : A) (f : A → Out B) → o ≡ ok x → (o >>= f) ≡ f x
-unfolding _>>=_
-bind-ok {A} o x f e = ap (λ (o : Out A). o >>= f) e
 
 -- ---- tests
 pub same-tag-true : (t u : Tag) → same-tag t u ≡ true → t ≡ u

@@ -2,19 +2,22 @@
 use Prim.Native.Nat.{ℕ, _<_}
 use mathlib.Core.Path.{_≡_, refl, sym, ap, _∙_}
 use mathlib.Core.Bool.{Bool, true, false}
-use mathlib.Core.List.{List, [], _∷_, List·Memᴰ as Mem, List·Memᴰ·head as head, List·Memᴰ·tail as tail}
+use mathlib.Core.List.{List, [], List·Memᴰ as Mem}
 use mathlib.Core.Option.{Option, none, some}
 use native.Mathlib.Omega.{arith}
 use lib.ListN.{length, getD}
-use Rattle.types.specs.Out.{Out, ok, refuse, _>>=_}
+use Rattle.types.specs.Out.{Out, refuse, _>>=_}
 use Rattle.types.specs.Node.{Polarity, Tag, members, bound, var, neg, form, Node, node, tag, children}
 use Rattle.types.specs.Arena.{Arena, at, sound, Ext}
 use Rattle.types.specs.Places.{opposite}
 use Rattle.types.proofs.Growth.{ext-tail, ext-rec, before, rec-at}
 use Rattle.types.proofs.Sound.{sound-ext, child-lower}
 use Rattle.arena.specs.Intern.{intern}
-use Rattle.simplification.specs.Pass.{no-variable, remaining, is-decided, member-list, close, Job, each, list-kind, rebuild, gather, apply-step, apply}
-use Rattle.simplification.proofs.Members.{index-of, member-at, remaining-from}
+use Rattle.recursion.specs.Jobs.{Job, each, rebuild}
+use Rattle.recursion.proofs.Answers.{each-same}
+use Rattle.recursion.proofs.Members.{index-of, member-at}
+use Rattle.simplification.specs.Pass.{no-variable, remaining, is-decided, member-list, close, list-kind, gather, apply-step, apply}
+use Rattle.simplification.proofs.Members.{remaining-from}
 use Rattle.simplification.proofs.Rebuilding.{has-member}
 use Rattle.simplification.proofs.Becoming.{remaining-kept}
 
@@ -25,12 +28,6 @@ list-kind-some (bound j) k e = let z : _≡_ {A = ℕ} 0 1 = cc in absurd (omega
 list-kind-some (var v) k e = let z : _≡_ {A = ℕ} 0 1 = cc in absurd (omega arith)
 list-kind-some neg k e = let z : _≡_ {A = ℕ} 0 1 = cc in absurd (omega arith)
 list-kind-some (form f) k e = let z : _≡_ {A = ℕ} 0 1 = cc in absurd (omega arith)
-
--- ---- the same jobs for the children
-each-same : (f g : ℕ → Job) (cs : List ℕ) → ((c : ℕ) → Mem c cs → f c ≡ g c) → (a : Arena) → each f cs a ≡ each g cs a
-unfolding each
-each-same f g [] h a = refl
-each-same f g (c ∷ cs) h a = λ i. h c (head refl) i a >>= λ r. each-same f g cs (λ d k. h d (tail k)) (r .1) i >>= λ q. ok (r .0 ∷ q .0, q .1)
 
 module _ (words starts : ℕ) where
   -- an old number is simplified alike

@@ -12,19 +12,13 @@ use Rattle.types.specs.Arena.{Arena, at, sound, Ext}
 use Rattle.types.specs.Places.{opposite}
 use Rattle.types.proofs.Growth.{ext-length, ext-at}
 use Rattle.types.proofs.Sound.{child-lower}
+use Rattle.recursion.proofs.Members.{index-of, each-member}
+use Rattle.recursion.proofs.Interning.{node-is, At, at-later}
 use Rattle.simplification.specs.Seen.{same-tag}
 use Rattle.simplification.specs.Pass.{var-of, is-removable, no-variable, remaining, is-decided, splice, first-copies, member-list, list-kind}
 use Rattle.simplification.proofs.Answers.{one-same}
-use Rattle.simplification.proofs.Members.{index-of, each-member, Brought, itself, spliced}
+use Rattle.simplification.proofs.Members.{Brought, itself, spliced}
 use Rattle.simplification.proofs.Copies.{listed}
-
-pub node-is : (x : Node) {t : Tag} → tag x ≡ t → x ≡ node t (children x)
-node-is (node t cs) e = ap (λ (t : Tag). node t cs) e
-
--- node n is x
-pub record At (a : Arena) (n : ℕ) (x : Node) : Type 0 where
-  pub inside : n < length a
-  pub is : at a n ≡ x
 
 -- all these numbers are there
 abbrev pub Inside : Arena → List ℕ → Type 0
@@ -78,7 +72,7 @@ all-inside {a} R cs es h = each-member (λ (e : ℕ). e < length a) (length cs) 
 -- ---- in a grown arena
 module _ (table : ℕ) (a b : Arena) (h : sound table a ≡ true) (ext : Ext a b) where
   pub at-kept : {n : ℕ} {x : Node} → At a n x → At b n x
-  at-kept {n} I = record { inside = omega (arith, I .inside, ext-length a b ext); is = ext-at a b ext n (I .inside) ∙ I .is }
+  at-kept = at-later ext
 
   first-child : (n : ℕ) → n < length a → (cs : List ℕ) → children (at a n) ≡ cs → getD cs 0 0 < length a
   first-child n l [] e = omega arith

@@ -14,9 +14,11 @@ use Rattle.types.specs.Out.{Out, ok, refuse}
 use Rattle.types.specs.Node.{Polarity}
 use Rattle.types.specs.Arena.{Arena, at}
 use Rattle.types.proofs.Tests.{true-false}
+use Rattle.recursion.proofs.Answers.{ok-refuse, ok-same, bind-parts}
+use Rattle.recursion.proofs.Members.{member-at}
 use Rattle.simplification.specs.Pass.{one-of, splice, append, first-copies, member-list}
-use Rattle.simplification.proofs.Answers.{ok-refuse, ok-same, bind-parts, one-true, one-if}
-use Rattle.simplification.proofs.Members.{member-at, Brought, splice-from, splice-onto}
+use Rattle.simplification.proofs.Answers.{one-true, one-if}
+use Rattle.simplification.proofs.Members.{Brought, splice-from, splice-onto}
 
 pub flat-from : (f : ℕ → List ℕ) (ms : List ℕ) (x : ℕ) → Mem x (flatMap f ms) → (m : ℕ) × Mem m ms × Mem x (f m)
 unfolding flatMap
@@ -90,7 +92,7 @@ appended m acc l e = go (one-of (eqb m) acc) refl (ltb (length acc) 64) refl e
     go false p true q e = subst (Copies acc (m ∷ [])) (ok-same e) (put p (ltb-true (length acc) 64 q))
     go false p false q e = absurd (ok-refuse e)
 
-copies : (acc ms l : List ℕ) → first-copies acc ms ≡ ok l → Copies acc ms l
+pub copies : (acc ms l : List ℕ) → first-copies acc ms ≡ ok l → Copies acc ms l
 unfolding first-copies
 copies acc [] l e = subst (Copies acc []) (ok-same e) (record { from = λ x h. inl h; old = λ x h. h; new = λ x h. absurd (not-nil h); different = λ d. d; few = λ n. n })
 copies acc (m ∷ ms) l e =

@@ -8,12 +8,12 @@ use lib.Dec.{eqb}
 use Rattle.types.specs.Out.{Out, ok, _>>=_}
 use Rattle.types.specs.Node.{Polarity, positive}
 use Rattle.types.specs.Arena.{Arena, sound}
+use Rattle.recursion.proofs.Answers.{ok-same, bind-parts}
 use Rattle.simplification.specs.Removal.{Occurs}
 use Rattle.simplification.specs.Pass.{pass}
 use Rattle.simplification.specs.Passes.{Taken, Result, after, unchanged, more-passes, passes, simplify-by, simplify}
 use Rattle.simplification.specs.Reading.{Reading}
 use Rattle.simplification.specs.Demand.{Fits, Demand}
-use Rattle.simplification.proofs.Answers.{ok-same, bind-parts}
 use Rattle.simplification.proofs.Shaping.{InShape}
 use Rattle.simplification.proofs.Passing.{Kept, Passed, passed}
 

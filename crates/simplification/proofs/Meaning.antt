@@ -14,13 +14,15 @@ use Rattle.types.specs.Places.{opposite, child-sign, Place, self}
 use Rattle.types.proofs.Tests.{true-false, same-truth}
 use Rattle.types.proofs.Walks.{step}
 use Rattle.types.proofs.Sound.{fold-at, ext-fold}
+use Rattle.recursion.proofs.Interning.{node-is, At}
+use Rattle.recursion.proofs.Members.{index-of, member-at}
 use Rattle.simplification.specs.Seen.{same-tag}
 use Rattle.simplification.specs.Pass.{is-removable, no-variable, remaining, member-list}
 use Rattle.simplification.specs.Reading.{Set, Reading, in-bound, combine, in-members, set-node, set-of}
 use Rattle.simplification.proofs.Answers.{same-tag-true, same-tag-false}
-use Rattle.simplification.proofs.Members.{index-of, member-at, remaining-from, remaining-onto, decided-by, Brought, itself, spliced}
+use Rattle.simplification.proofs.Members.{remaining-from, remaining-onto, decided-by, Brought, itself, spliced}
 use Rattle.simplification.proofs.Copies.{listed}
-use Rattle.simplification.proofs.Becoming.{node-is, At, Inside, Stands, decided, single, several, Becomes, other, list, emptied, all-inside}
+use Rattle.simplification.proofs.Becoming.{Inside, Stands, decided, single, several, Becomes, other, list, emptied, all-inside}
 use Rattle.simplification.proofs.Removing.{removable, variable, negated}
 
 -- ---- the value that decides a union or an intersection

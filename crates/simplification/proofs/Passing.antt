@@ -12,14 +12,15 @@ use Rattle.types.specs.Places.{opposite, child-sign, Place, self, down, Polar}
 use Rattle.types.proofs.Growth.{ext-length, ext-at}
 use Rattle.types.proofs.Sound.{ext-fold}
 use Rattle.types.proofs.Walks.{place-join, place-lower, place-kept, place-old}
+use Rattle.recursion.proofs.Interning.{node-is}
+use Rattle.recursion.proofs.Members.{index-of}
 use Rattle.simplification.specs.Seen.{sees-node, sees, one-signed}
 use Rattle.simplification.specs.Removal.{Occurs, OccursOnly}
 use Rattle.simplification.specs.Pass.{pass}
 use Rattle.simplification.specs.Passes.{Taken}
 use Rattle.simplification.specs.Reading.{Reading, in-bound, in-neg, set-of}
 use Rattle.simplification.specs.Demand.{Fits}
-use Rattle.simplification.proofs.Members.{index-of}
-use Rattle.simplification.proofs.Becoming.{node-is, becomes-inside}
+use Rattle.simplification.proofs.Becoming.{becomes-inside}
 use Rattle.simplification.proofs.Rebuilding.{has-negated}
 use Rattle.simplification.proofs.Running.{Run, apply-runs}
 use Rattle.simplification.proofs.Seeing.{one-signed-only}

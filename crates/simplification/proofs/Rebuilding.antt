@@ -1,25 +1,21 @@
 -- Nodes that a pass interns are well formed, so that a sound arena stays sound. Numbers of nodes fit their 12 bits while at most 4,096 starts are lent.
 use Prim.Native.Nat.{ℕ, _^_, _<_, _≤_}
-use mathlib.Core.Path.{_≡_, refl, sym, ap, _∙_, subst}
+use mathlib.Core.Path.{_≡_, refl, sym, _∙_, subst}
 use mathlib.Core.Bool.{true, _&&_}
 use mathlib.Core.List.{List, []}
 use native.Mathlib.Omega.{arith}
-use lib.ListN.{length, length-append}
+use lib.ListN.{length}
 use lib.Dec.{leb}
 use borrow.Author.Tests.{eqb-true, leb-true, le-leb}
-use Rattle.types.specs.Out.{ok}
 use Rattle.types.specs.Kind.{body-count}
-use Rattle.types.specs.Node.{Polarity, positive, negative, Tag, members, bound, neg, Node, node, tag, children, kind, data-of, names, child-words, body, below, matched, formed, linked, rising, well}
-use Rattle.types.specs.Arena.{Arena, at, find, sound, Ext}
+use Rattle.types.specs.Node.{Polarity, positive, negative, Tag, members, bound, neg, Node, node, tag, children, kind, data-of, child-words, below, formed, linked, rising, well}
+use Rattle.types.specs.Arena.{Arena, at, sound}
 use Rattle.types.proofs.Tests.{and-true, both}
 use Rattle.types.proofs.Lists.{below-more}
-use Rattle.types.proofs.Nodes.{Formed, formed-parts, parts-formed, length-child-words}
-use Rattle.types.proofs.Decodes.{well-parts, parts-well}
-use Rattle.types.proofs.Sound.{at-formed, at-find}
-use Rattle.arena.specs.Intern.{intern}
-use Rattle.arena.proofs.Additions.{intern-stored, room-parts}
-use Rattle.arena.proofs.Interning.{Done, stored, added, done, done-ext, done-at, done-sound}
-use Rattle.simplification.proofs.Becoming.{node-is, At}
+use Rattle.types.proofs.Nodes.{Formed, formed-parts, parts-formed}
+use Rattle.types.proofs.Decodes.{parts-well}
+use Rattle.types.proofs.Sound.{at-formed}
+use Rattle.recursion.proofs.Interning.{node-is}
 
 -- ---- member lists
 list-count : (k : Polarity) (n : ℕ) → body-count (kind (members k)) (data-of (members k) .dynamic) n ≡ (leb 1 n && leb n 64)
@@ -27,7 +23,7 @@ unfolding body-count
 list-count positive n = refl
 list-count negative n = refl
 
-formed-list : (k : Polarity) (ms : List ℕ) → formed (node (members k) ms) ≡ true → 0 < length ms
+pub formed-list : (k : Polarity) (ms : List ℕ) → formed (node (members k) ms) ≡ true → 0 < length ms
 unfolding child-words
 formed-list k ms e = leb-true 1 (length ms) (and-true (leb 1 (length ms)) _ (sym (list-count k (length ms)) ∙ formed-parts (members k) ms e .counted) .0)
 
@@ -59,45 +55,7 @@ module _ (table n : ℕ) (few : n ≤ 4096) where
       } in
       parts-well table n (node (members k) ms) (record { formed-so = parts-formed (members k) ms F; linked-so = both b refl; rising-so = refl })
 
-  -- with as many other children
-  pub well-again : (m : ℕ) (t : Tag) (cs es : List ℕ) → well table m (node t cs) ≡ true → length es ≡ length cs → below n es ≡ true → well table n (node t es) ≡ true
-  unfolding linked
-  well-again m t cs es w q b =
-      let W = well-parts table m (node t cs) w in
-      let F = formed-parts t cs (W .formed-so) in
-      let l : length (body (node t es)) ≡ length (body (node t cs))
-      = omega (arith, length-append (data-of t .numbers) (child-words (data-of t .fields) es), length-append (data-of t .numbers) (child-words (data-of t .fields) cs), length-child-words (data-of t .fields) es, length-child-words (data-of t .fields) cs) in
-      let G : Formed t es = record {
-        counted = ap (body-count (kind t) (data-of t .dynamic)) l ∙ F .counted;
-        matches = ap (matched t) q ∙ F .matches;
-        own = F .own;
-        few-names = F .few-names;
-        few-nodes = below-more n (2 ^ 12) es few b;
-      } in
-      parts-well table n (node t es) (record { formed-so = parts-formed t es G; linked-so = both b (and-true (below m cs) (below table (names t)) (W .linked-so) .1); rising-so = W .rising-so })
-
 pub bound-well : (table n : ℕ) (k : Polarity) → well table n (node (bound k) []) ≡ true
 unfolding well body-count child-words
 bound-well table n positive = refl
 bound-well table n negative = refl
-
--- ---- interning
-pub record Interned (table : ℕ) (x : Node) (a : Arena) (m : ℕ) (b : Arena) : Type 0 where
-  pub ext : Ext a b
-  pub good : sound table b ≡ true
-  pub is : At b m x
-
-module _ (words starts table : ℕ) (few : starts ≤ 4096) (x : Node) (a : Arena) (h : sound table a ≡ true) where
-  pub interned : (m : ℕ) (b : Arena) → (length a ≤ 4096 → well table (length a) x ≡ true) → intern words starts x a ≡ ok (m, b) → Interned table x a m b
-  interned m b w e =
-      let D = done words starts x a m b e in
-      let p = done-at D in
-      record { ext = done-ext D; good = go D; is = record { inside = p .0; is = p .1 } }
-    where
-      go : {m : ℕ} {b : Arena} → Done words starts x a m b → sound table b ≡ true
-      go (stored p) = h
-      go (added p q) = done-sound table h (w (let r = room-parts words starts x a q .1 in omega arith)) (added p q)
-
--- what is there is found, and nothing is added
-pub intern-there : (words starts table : ℕ) (x : Node) (a : Arena) → sound table a ≡ true → (m : ℕ) → At a m x → intern words starts x a ≡ ok (m, a)
-intern-there words starts table x a h m I = intern-stored words starts x a m (ap (λ (y : Node). find y a) (sym (I .is)) ∙ at-find table a h m (I .inside))

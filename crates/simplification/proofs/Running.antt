@@ -14,12 +14,15 @@ use Rattle.types.specs.Places.{opposite}
 use Rattle.types.proofs.Growth.{ext-trans, ext-length}
 use Rattle.types.proofs.Sound.{at-well, child-lower}
 use Rattle.arena.specs.Intern.{intern}
-use Rattle.simplification.specs.Pass.{no-variable, remaining, is-decided, member-list, Job, each, list-kind, rebuild, close, gather, apply-step, apply}
-use Rattle.simplification.proofs.Answers.{ok-same, bind-parts}
-use Rattle.simplification.proofs.Members.{index-of, member-at, member-below, remaining-from}
+use Rattle.recursion.specs.Jobs.{Job, each, rebuild}
+use Rattle.recursion.proofs.Answers.{ok-same, bind-parts}
+use Rattle.recursion.proofs.Interning.{node-is, At, well-again, interned}
+use Rattle.recursion.proofs.Members.{index-of, member-at, member-below}
+use Rattle.simplification.specs.Pass.{no-variable, remaining, is-decided, member-list, list-kind, close, gather, apply-step, apply}
+use Rattle.simplification.proofs.Members.{remaining-from}
 use Rattle.simplification.proofs.Copies.{listed}
-use Rattle.simplification.proofs.Becoming.{node-is, At, Stands, decided, single, several, Becomes, other, list, emptied, AllBecome, all-inside, at-kept, Inside, brought-inside, decided-kept, listed-kept, members-kept, becomes-kept, becomes-inside}
-use Rattle.simplification.proofs.Rebuilding.{list-well, well-again, bound-well, has-member, interned}
+use Rattle.simplification.proofs.Becoming.{Stands, decided, single, several, Becomes, other, list, emptied, AllBecome, all-inside, at-kept, Inside, brought-inside, decided-kept, listed-kept, members-kept, becomes-kept, becomes-inside}
+use Rattle.simplification.proofs.Rebuilding.{list-well, bound-well, has-member}
 use Rattle.simplification.proofs.Applying.{list-kind-some, apply-kept, step-other, step-list, apply-at, gather-decided, gather-open}
 
 -- a finished job: node n became node m

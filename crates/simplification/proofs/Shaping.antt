@@ -12,11 +12,13 @@ use Rattle.types.specs.Node.{Polarity, positive, negative, Tag, members, bound,
 use Rattle.types.specs.Arena.{Arena, at}
 use Rattle.types.specs.Places.{opposite, child-sign, Place, self, down}
 use Rattle.types.proofs.Tests.{true-false}
+use Rattle.recursion.proofs.Interning.{node-is}
+use Rattle.recursion.proofs.Members.{index-of, member-at, each-member}
 use Rattle.simplification.specs.Pass.{is-decided, member-list, list-kind}
 use Rattle.simplification.specs.Demand.{Shaped}
-use Rattle.simplification.proofs.Members.{index-of, member-at, each-member, decided-if, Brought, itself, spliced}
+use Rattle.simplification.proofs.Members.{decided-if, Brought, itself, spliced}
 use Rattle.simplification.proofs.Copies.{listed}
-use Rattle.simplification.proofs.Becoming.{node-is, Stands, decided, single, several, Becomes, other, list, emptied}
+use Rattle.simplification.proofs.Becoming.{Stands, decided, single, several, Becomes, other, list, emptied}
 use Rattle.simplification.proofs.Tracing.{step-back, list-step}
 
 either-side : (j k : Polarity) → (j ≡ k) ⊎ (j ≡ opposite k)

@@ -10,10 +10,12 @@ use Rattle.types.specs.Node.{Polarity, Tag, members, bound, Node, node, tag, ch
 use Rattle.types.specs.Arena.{Arena, at}
 use Rattle.types.specs.Places.{opposite, child-sign, Place, self, down}
 use Rattle.types.proofs.Walks.{step}
+use Rattle.recursion.proofs.Interning.{node-is}
+use Rattle.recursion.proofs.Members.{index-of, member-at, each-member}
 use Rattle.simplification.specs.Pass.{remaining, member-list}
-use Rattle.simplification.proofs.Members.{index-of, member-at, each-member, remaining-from, decided-by, Brought, itself, spliced}
+use Rattle.simplification.proofs.Members.{remaining-from, decided-by, Brought, itself, spliced}
 use Rattle.simplification.proofs.Copies.{listed}
-use Rattle.simplification.proofs.Becoming.{node-is, Stands, decided, single, several, Becomes, other, list, emptied}
+use Rattle.simplification.proofs.Becoming.{Stands, decided, single, several, Becomes, other, list, emptied}
 
 -- where the place of u came from, in the type of c
 pub record Origin (a : Arena) (c : ℕ) (s : Polarity) (u : ℕ) (p : Polarity) : Type 0 where

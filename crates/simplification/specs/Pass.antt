@@ -11,6 +11,7 @@ use Rattle.types.specs.Node.{Polarity, Tag, members, bound, var, neg, form, Nod
 use Rattle.types.specs.Arena.{Arena, at, rec}
 use Rattle.types.specs.Places.{opposite}
 use Rattle.arena.specs.Intern.{intern}
+use Rattle.recursion.specs.Jobs.{Job, each, rebuild}
 use Rattle.simplification.specs.Seen.{same-tag, one-signed}
 
 -- does one of them pass?
@@ -78,16 +79,6 @@ unfolding first-copies flatMap splice at
 member-list k a ms = first-copies [] (flatMap (λ (m : ℕ). splice k m (at a m)) ms)
 
 -- ---- one node
--- what is done in an arena: the number of a node, and the arena after
-abbrev pub Job : Type 0
-Job = Arena → Out (ℕ × Arena)
-
--- one job after another
-unfoldable pub each : (ℕ → Job) → List ℕ → Arena → Out (List ℕ × Arena)
-unfolding _>>=_
-each f [] a = ok ([], a)
-each f (c ∷ cs) a = f c a >>= λ r. each f cs (r .1) >>= λ q. ok (r .0 ∷ q .0, q .1)
-
 -- the kind of a member list; other nodes have none
 abbrev pub list-kind : Tag → Option Polarity
 list-kind (members k) = some k
@@ -97,11 +88,6 @@ list-kind neg = none
 list-kind (form f) = none
 
 module _ (words starts : ℕ) where
-  -- a node that is no list: its children from left to right, then the node with the same tag
-  unfoldable pub rebuild : Tag → List ℕ → (ℕ → Job) → Job
-  unfolding each intern _>>=_
-  rebuild t cs f a = each f cs a >>= λ r. intern words starts (node t (r .0)) (r .1)
-
   -- what stands for a list: if nothing is left, members that became neutral included, what `first` gives; one member stands for itself
   unfoldable pub close : Polarity → Job → List ℕ → Job
   unfolding intern
@@ -122,7 +108,7 @@ module _ (words starts : ℕ) where
   unfoldable pub apply-step : Arena → Node → (ℕ → (ℕ → Bool) → Job) → (ℕ → Bool) → Job
   unfolding rebuild gather remaining each _>>=_
   apply-step s x f R a = elim (list-kind (tag x)) [
-    | none ↦ rebuild (tag x) (children x) (λ c. f c R) a
+    | none ↦ rebuild words starts (tag x) (children x) (λ c. f c R) a
     | some k ↦ each (λ c. f c R) (remaining R s (children x)) a >>= λ r. gather k (f (getD (children x) 0 0) no-variable) (r .0) (r .1)
   ]
 

@@ -20,33 +20,34 @@ use Rattle.arena.specs.declared.sound.Judged.the-variants as verdict
 use Rattle.arena.proofs.Verdicts.{lent-names, lent-refused, lent-done}
 use Rattle.simplification.specs.Passes.{Result, simplify}
 use Rattle.simplification.proofs.Demands.{demand-3}
-use Rattle.pass.specs.Applied.{Stands}
-use Rattle.simplify.specs.Simplify.{Answer, answered, simplify-reply, left, Fulfilled, Promise, LeadsTo, done, stop, Simplifies, TakesBack, SimplifiesLent}
+use Rattle.recursion.specs.Work.{Stands, TakesBack}
+use Rattle.simplify.specs.Simplify.{Answer, answered, simplify-reply, left, Fulfilled, Promise, LeadsTo, done, stop, Simplifies, SimplifiesLent}
 use Rattle.simplify.specs.declared.Simplified.{Simplified}
 use Rattle.simplify.specs.declared.Simplified.the-variants as simplified
 
 -- ---- outcomes taken apart
-record Finished (table : ℕ) (a : Arena) (w s : List ℕ) (n k : ℕ) (d : Counters) (o : Out Result) : Type 0 where
+pub record Finished (table : ℕ) (a : Arena) (w s : List ℕ) (n k : ℕ) (d : Counters) (o : Out Result) : Type 0 where
   pub result : Result
   pub is : o ≡ ok result
   pub root : n ≡ result .root
   pub count : k ≡ length (result .taken)
   pub holds : Holds table w s d (result .arena)
+  pub low : n < length (result .arena)
 
-record Stopped (a : Arena) (w s : List ℕ) (e : ℕ) (o : Out Result) : Type 0 where
+pub record Stopped (a : Arena) (w s : List ℕ) (e : ℕ) (o : Out Result) : Type 0 where
   pub is : o ≡ refuse e
   pub stands : Stands w s a
 
 module _ {table : ℕ} {a : Arena} {w s : List ℕ} where
-  finished : {r : Simplified} {o : Out Result} {n k : ℕ} {d : Counters} → LeadsTo table a 0 w s r o → r ≡ simplified.Type n k d → Finished table a w s n k d o
+  pub finished : {r : Simplified} {o : Out Result} {n k : ℕ} {d : Counters} → LeadsTo table a 0 w s r o → r ≡ simplified.Type n k d → Finished table a w s n k d o
   finished {n = n} {k = k} {d = d} (done {q = q} {k = j} {d = f} H E l c) e =
       let x : q .root ≡ n = cc in
       let y : j ≡ k = cc in
       let z : f ≡ d = cc in
-      record { result = q; is = refl; root = sym x; count = omega (arith, c, y); holds = subst (λ (b : Counters). Holds table w s b (q .arena)) z H }
+      record { result = q; is = refl; root = sym x; count = omega (arith, c, y); holds = subst (λ (b : Counters). Holds table w s b (q .arena)) z H; low = omega (arith, l, x) }
   finished (stop S) e = let z : _≡_ {A = ℕ} 0 1 = cc in absurd (omega arith)
 
-  stopped : {r : Simplified} {o : Out Result} {x : ℕ} → LeadsTo table a 0 w s r o → r ≡ simplified.Refused x → Stopped a w s x o
+  pub stopped : {r : Simplified} {o : Out Result} {x : ℕ} → LeadsTo table a 0 w s r o → r ≡ simplified.Refused x → Stopped a w s x o
   stopped (done H E l c) e = let z : _≡_ {A = ℕ} 0 1 = cc in absurd (omega arith)
   stopped {x = x} (stop {e = y} S) e = let p : y ≡ x = cc in record { is = ap refuse p; stands = S }
 

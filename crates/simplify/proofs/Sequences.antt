@@ -19,13 +19,14 @@ use Rattle.arena.specs.declared.added.Interned.{Interned}
 use Rattle.arena.specs.declared.added.Interned.the-variants as interned
 use Rattle.simplification.specs.Pass.{pass}
 use Rattle.simplification.specs.Passes.{Taken, Result, after, unchanged, passes, simplify}
-use Rattle.pass.specs.Applied.{Stands}
-use Rattle.pass.specs.Once.{LeadsOnce, SimplifiesOnce}
-use Rattle.pass.specs.Once as once
+use Rattle.recursion.specs.Work.{Stands}
+use Rattle.recursion.specs.Hosted.{LeadsOnce}
+use Rattle.pass.specs.Once.{SimplifiesOnce}
+use Rattle.recursion.specs.Hosted as once
 use Rattle.simplify.specs.Simplify.{LeadsTo, done, stop, PassRoom, MorePasses, Simplifies}
 use Rattle.simplify.specs.declared.Simplified.{Simplified}
 use Rattle.simplify.specs.declared.Simplified.the-variants as simplified
-use Rattle.pass.proofs.Leading.{stands-ext}
+use Rattle.recursion.proofs.Leading.{stands-ext}
 
 -- ---- outcomes of one pass taken apart
 record Passed (table : ℕ) (a : Arena) (w s : List ℕ) (m : ℕ) (d : Counters) (o : Out (ℕ × Arena)) : Type 0 where

@@ -1,8 +1,8 @@
 -- What `simplify` answers, leaves and promises (01, "simplify", "Who can cause which number" and "How far the contracts go").
 use Prim.Native.Nat.{ℕ, _+_, _-_, _<_, _≤_}
 use mathlib.Core.Path.{_≡_}
-use mathlib.Core.List.{List, _++_}
-use lib.ListN.{length, take, replicate}
+use mathlib.Core.List.{List}
+use lib.ListN.{length}
 use Rattle.types.specs.Out.{Out, ok, refuse, _>>=_}
 use Rattle.types.specs.Arena.{Arena, Ext}
 use Rattle.types.specs.Memory.{Holds}
@@ -12,7 +12,7 @@ use Rattle.names.specs.Table.{Name, names-of}
 use Rattle.arena.specs.Stored.{InRange}
 use Rattle.simplification.specs.Passes.{Result, passes, simplify}
 use Rattle.simplification.specs.Demand.{Demand}
-use Rattle.pass.specs.Applied.{Stands}
+use Rattle.recursion.specs.Work.{Stands}
 use Rattle.simplify.specs.declared.Simplified.{Simplified}
 use Rattle.simplify.specs.declared.Simplified.the-variants as simplified
 
@@ -68,10 +68,6 @@ pub record MorePasses (w s : List ℕ) (c : Counters) (root most made : ℕ) (w�
 
 pub record Simplifies (w s : List ℕ) (c : Counters) (root : ℕ) (w′ s′ : List ℕ) (r : Simplified) : Type 0 where
   pub is : (table : ℕ) (a : Arena) → Holds table w s c a → LeadsTo table a 0 w′ s′ r (simplify (length w) (length s) root a)
-
--- the words before the place stay, and the others are zero
-pub record TakesBack (w : List ℕ) (from : ℕ) (w′ : List ℕ) : Type 0 where
-  pub is : w′ ≡ take from w ++ replicate (length w - from) 0
 
 -- the reply in a sound arena, and the promise where it is finished
 pub record SimplifiesLent (w s : List ℕ) (c : Counters) (root : ℕ) (w′ s′ : List ℕ) (r : Simplified) : Type 0 where

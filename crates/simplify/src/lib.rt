@@ -3,10 +3,11 @@ use arena::added::Interned;
 use arena::sound::Judged;
 use arena::sound::judge;
 use pass::once::simplify_once;
+use recursion::take_back;
 use types::Counters;
 use types::arc_ty::wide;
 ghost use Rattle.arena.specs.Stored.{Lent, InRange};
-ghost use Rattle.simplify.specs.Simplify.{PassRoom, MorePasses, Simplifies, TakesBack, SimplifiesLent, Promise};
+ghost use Rattle.simplify.specs.Simplify.{PassRoom, MorePasses, Simplifies, SimplifiesLent, Promise};
 
 // The passes that may follow the first.
 const MORE_PASSES: u32 = 5;
@@ -54,7 +55,7 @@ fn more_passes(
 }
 
 // All passes, in an arena that is known to be sound and has the root. A refusal leaves the nodes that were added.
-fn simplify_in(words: &mut [u32], starts: &mut [u32], c: Counters, root: u32) -> Simplified
+pub fn simplify_in(words: &mut [u32], starts: &mut [u32], c: Counters, root: u32) -> Simplified
     requires { ⌜ InRange (now words) (now starts) c root ⌝ }
     ensures { λ r. ⌜ Simplifies (now (words .entry)) (now (starts .entry)) c root (now (words .exit)) (now (starts .exit)) r ⌝ }
 {
@@ -62,17 +63,6 @@ fn simplify_in(words: &mut [u32], starts: &mut [u32], c: Counters, root: u32) ->
     match r {
         Interned::Refused(number) => Simplified::Refused(number),
         Interned::Node(m, d) => more_passes(words, starts, d, m, MORE_PASSES, 1),
-    }
-}
-
-// Clears what stands from a place on.
-fn take_back(words: &mut [u32], from: usize)
-    ensures { λ _. ⌜ TakesBack (now (words .entry)) from (now (words .exit)) ⌝ }
-{
-    let mut i = from;
-    while i < words.len() {
-        words[i] = 0;
-        i += 1;
     }
 }
 

@@ -12,7 +12,7 @@ pub struct ShortText {
 }
 
 impl ShortText {
-    pub(crate) fn new() -> Self
+    pub fn new() -> Self
         ensures { λ r. ⌜ r ≡ short-text [] ⌝ }
     {
         Self {
@@ -32,7 +32,7 @@ impl ShortText {
     }
 
     // The digits of n in base ten: those of its tenth first.
-    pub(crate) fn push_decimal(self, n: u32) -> Self
+    pub fn push_decimal(self, n: u32) -> Self
         requires { ⌜ Room self (length (decimal n)) ⌝ }
         ensures { λ r. ⌜ r ≡ appended self (decimal n) ⌝ }
     {

@@ -1,10 +1,10 @@
 -- The invariant: the words from the place to i are zero, and the others as they were.
 use Prim.Native.Nat.{_-_}
 use lib.ListN.{length}
-use Rattle.simplify.proofs.TakingBack.{Clearing, clearing-start, clearing-more, clearing-less, clearing-done}
+use Rattle.recursion.proofs.TakingBack.{Clearing, clearing-start, clearing-more, clearing-less, clearing-done}
 use borrow.Author.Needs.{needs}
-use Rattle.simplify.proofs.take_back.Statement.{statement}
-use Rattle.simplify.proofs.take_back.Tie as tie
+use Rattle.recursion.proofs.take_back.Statement.{statement}
+use Rattle.recursion.proofs.take_back.Tie as tie
 
 abbrev Inv-loop : tie.InvT-loop
 Inv-loop words₀ from i₀ words i = Clearing words₀ from words i

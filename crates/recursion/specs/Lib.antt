@@ -1,0 +1,4 @@
+pub mod Jobs
+pub mod Cache
+pub mod Work
+pub mod Hosted
