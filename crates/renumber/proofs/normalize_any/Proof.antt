@@ -1,0 +1,51 @@
+-- 1 and 2 are the verdict's; what follows them is that of `normalize_lent`.
+use Rattle.arena.proofs.Verdicts.{lent-known}
+use Rattle.recursion.proofs.Hosts.{host-refused, host-done}
+use borrow.Author.Needs.{needs}
+use Rattle.renumber.proofs.normalize_any.Statement.{statement}
+use Rattle.renumber.proofs.normalize_any.Tie as tie
+
+judge-requires : tie.Need-judge-requires
+judge-requires c κs = search needs
+
+enum-known-lent : tie.Need-enum-known-lent
+enum-known-lent c = search needs
+
+normalize-lent-requires : tie.Need-normalize-lent-requires
+normalize-lent-requires c κs = search lent-known
+
+enum-known-lent-2 : tie.Need-enum-known-lent-2
+enum-known-lent-2 c = search needs
+
+same-length : tie.Need-same-length
+same-length c = search needs
+
+same-length-2 : tie.Need-same-length-2
+same-length-2 c = search needs
+
+returns : tie.Need-returns
+returns c = search host-done
+
+same-length-3 : tie.Need-same-length-3
+same-length-3 c = search needs
+
+same-length-4 : tie.Need-same-length-4
+same-length-4 c = search needs
+
+returns-2 : tie.Need-returns-2
+returns-2 c = search host-refused
+
+pub normalize-any-spec : {M : Type 1} → statement M
+normalize-any-spec =
+    tie.close
+    (tie.spec
+    judge-requires
+    enum-known-lent
+    normalize-lent-requires
+    enum-known-lent-2
+    same-length
+    same-length-2
+    returns
+    same-length-3
+    same-length-4
+    returns-2)

@@ -1,0 +1,4 @@
+pub mod Indexing
+pub mod VarNodes
+pub mod Renumbering
+pub mod Working

@@ -1,0 +1,62 @@
+// One variable: its number, its place in a list, and its node.
+use arena::added::Interned;
+use arena::added::intern_node;
+use arena::stored::node_at;
+use types::Counters;
+use types::arc_ty::Head;
+use types::arc_ty::wide;
+ghost use mathlib.Core.Path.{_≡_};
+ghost use Prim.Native.Nat.{_≤_};
+ghost use lib.ListN.{length};
+ghost use Rattle.arena.specs.Stored.{Lent};
+ghost use Rattle.renumbering.specs.Renumbered.{index};
+ghost use Rattle.renumbering.specs.Inner.{VarAt, VarIs, InternsVar, RenumbersVar};
+
+// The place of a variable in a list; the length of the list, if it has none.
+fn index_of(vars: &[u32], v: u32) -> usize
+    ensures { λ r. ⌜ r ≡ index (now (vars .entry)) v ⌝ }
+{
+    let mut i = 0;
+    while i < vars.len() {
+        if vars[i] == v {
+            return i;
+        }
+        i += 1;
+    }
+    i
+}
+
+// The number of the variable at node n.
+fn var_at(words: &[u32], starts: &[u32], c: Counters, n: usize) -> u32
+    requires { ⌜ VarAt (now words) (now starts) c n ⌝ }
+    ensures { λ r. ⌜ VarIs (now (words .entry)) (now (starts .entry)) c n r ⌝ }
+{
+    node_at(words, starts, c, n)[1]
+}
+
+// The number of the node of variable v, which is added where the arena has none.
+pub fn intern_var(words: &mut [u32], starts: &mut [u32], c: Counters, v: u32) -> Interned
+    requires { ⌜ Lent (now words) (now starts) c ⌝ }
+    ensures { λ r. ⌜ InternsVar (now (words .entry)) (now (starts .entry)) c v (now (words .exit)) (now (starts .exit)) r ⌝ }
+{
+    let head = Head::new(Head::TY_VAR, false, false, 1);
+    let node = [head.word, v];
+    intern_node(words, starts, c, &node)
+}
+
+// What the variable at node n becomes: that of its place in the list.
+pub fn renumber_var(
+    words: &mut [u32],
+    starts: &mut [u32],
+    c: Counters,
+    n: u32,
+    vars: &[u32],
+) -> Interned
+    requires { ⌜ VarAt (now words) (now starts) c n ⌝ }
+    requires { ⌜ length (now vars) ≤ 4096 ⌝ }
+    ensures { λ r. ⌜ RenumbersVar (now (vars .entry)) (now (words .entry)) (now (starts .entry)) c n (now (words .exit)) (now (starts .exit)) r ⌝ }
+{
+    let v = var_at(words, starts, c, wide(n));
+    let place = index_of(vars, v);
+    intern_var(words, starts, c, place as u32)
+}
