@@ -1,0 +1,4 @@
+pub mod Placing
+pub mod Gaps
+pub mod Sorted
+pub mod Inserting

@@ -1,0 +1,34 @@
+-- Members sorted by node order, that of the nodes in the arena at that time (01, "arena": `normalize_set_ops` sorts by node order).
+use Prim.Native.Nat.{ℕ}
+use mathlib.Core.Bool.{Bool, true, false}
+use mathlib.Core.List.{List, [], _∷_}
+use Rattle.types.specs.Arena.{Arena, at}
+use Rattle.types.specs.declared.Ordering.{Ordering}
+use Rattle.types.specs.declared.Ordering.the-variants.{Less, Equal, Greater}
+use Rattle.node_order.specs.NodeOrder.{node-order}
+
+abbrev pub is-less : Ordering → Bool
+is-less Less = true
+is-less Equal = false
+is-less Greater = false
+
+-- does node m come before node n?
+unfoldable pub before : Arena → ℕ → ℕ → Bool
+unfolding node-order at
+before a m n = is-less (node-order (at a m) (at a n))
+
+-- a member, before the first that it comes before
+unfoldable pub insert : Arena → ℕ → List ℕ → List ℕ
+unfolding before
+insert a m [] = m ∷ []
+insert a m (x ∷ xs) = elim (before a m x) [ true ↦ m ∷ x ∷ xs | false ↦ x ∷ insert a m xs ]
+
+-- a sorted list, and what follows inserted from left to right
+unfoldable pub sort-onto : Arena → List ℕ → List ℕ → List ℕ
+unfolding insert
+sort-onto a sorted [] = sorted
+sort-onto a sorted (m ∷ ms) = sort-onto a (insert a m sorted) ms
+
+unfoldable pub sort : Arena → List ℕ → List ℕ
+unfolding sort-onto
+sort a = sort-onto a []

@@ -1,0 +1,2 @@
+pub mod SetOps
+pub mod Lists

@@ -1,0 +1,114 @@
+// What becomes of a union or an intersection in `normalize_set_ops`, from its members as normalized. Both are one code over the
+// number of their kind.
+use arena::added::Interned;
+use arena::stored::node_at;
+use member_lists::Members;
+use member_lists::growing::Grown;
+use member_lists::growing::append;
+use member_lists::growing::append_children;
+use member_lists::intern_list;
+use member_sorting::sort_members;
+use types::Counters;
+use types::arc_ty::Head;
+use types::arc_ty::wide;
+use walks::nodes::kind_at;
+ghost use Rattle.member_lists.specs.Members.{Splicing, Filled};
+ghost use Rattle.set_op_lists.specs.Lists.{Appends, Bringing, Brings, StandsFor};
+
+// How long the list is after a member, and the counters then, or the number of a refusal.
+pub enum Brought {
+    Held(usize, Counters),
+    Refused(u32),
+}
+
+// Appends what the normalized member m brings to a list of a kind: a list of that kind its own members, any other itself.
+fn append_brought(
+    words: &[u32],
+    starts: &[u32],
+    c: Counters,
+    kind: u32,
+    m: u32,
+    items: &mut [u32; 64],
+    count: usize,
+) -> Grown
+    requires { ⌜ Splicing (now words) (now starts) c m (now items) count ⌝ }
+    ensures { λ r. ⌜ Appends (now (words .entry)) (now (starts .entry)) c kind m (now (items .entry)) count (now (items .exit)) r ⌝ }
+{
+    let n = wide(m);
+    if kind_at(words, starts, c, n) == kind {
+        return append_children(node_at(words, starts, c, n), items, count);
+    }
+    append(items, count, m)
+}
+
+// The same from a member's outcome: a refusal is passed on, and a 65th member is refused by 8.
+pub fn bring(
+    words: &[u32],
+    starts: &[u32],
+    outcome: Interned,
+    kind: u32,
+    items: &mut [u32; 64],
+    count: usize,
+) -> Brought
+    requires { ⌜ Bringing (now words) (now starts) outcome kind (now items) count ⌝ }
+    ensures { λ r. ⌜ Brings (now (words .entry)) (now (starts .entry)) outcome kind (now (items .entry)) count (now (items .exit)) r ⌝ }
+{
+    match outcome {
+        Interned::Refused(number) => Brought::Refused(number),
+        Interned::Node(m, d) => {
+            let grown = append_brought(words, starts, d, kind, m, items, count);
+            match grown {
+                Grown::Count(next) => Brought::Held(next, d),
+                Grown::Full => Brought::Refused(8),
+            }
+        }
+    }
+}
+
+// What stands for a list of a kind, sorted: one member for itself, more as a node.
+fn close_sorted(
+    words: &mut [u32],
+    starts: &mut [u32],
+    c: Counters,
+    kind: u32,
+    items: &[u32; 64],
+    count: usize,
+) -> Interned
+    requires { ⌜ Filled (now words) (now starts) c kind (now items) count ⌝ }
+    ensures { λ r. ⌜ StandsFor (now (words .entry)) (now (starts .entry)) c kind (now (items .entry)) count (now (words .exit)) (now (starts .exit)) r ⌝ }
+{
+    let all: &[u32] = items;
+    let mut sorted = [0u32; 64];
+    sort_members(words, starts, c, &all[..count], &mut sorted);
+    if count == 1 {
+        return Interned::Node(sorted[0], c);
+    }
+    intern_list(
+        words,
+        starts,
+        c,
+        kind,
+        Members {
+            items: sorted,
+            count,
+        },
+    )
+}
+
+// The same. Two calls keep `close_sorted`, and its lists, out of the frame of the recursion that calls this.
+pub fn close_list(
+    words: &mut [u32],
+    starts: &mut [u32],
+    c: Counters,
+    kind: u32,
+    items: &[u32; 64],
+    count: usize,
+) -> Interned
+    requires { ⌜ Filled (now words) (now starts) c kind (now items) count ⌝ }
+    ensures { λ r. ⌜ StandsFor (now (words .entry)) (now (starts .entry)) c kind (now (items .entry)) count (now (words .exit)) (now (starts .exit)) r ⌝ }
+{
+    if kind == Head::UNION {
+        return close_sorted(words, starts, c, Head::UNION, items, count);
+    }
+    close_sorted(words, starts, c, Head::INTERSECTION, items, count)
+}

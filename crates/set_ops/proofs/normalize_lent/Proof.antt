@@ -1,0 +1,62 @@
+-- 6 for a root past the last node; a refused run is taken back.
+use Rattle.recursion.proofs.Hosts.{no-root, run-done, run-stopped}
+use borrow.Author.Needs.{needs}
+use Rattle.set_ops.proofs.normalize_lent.Statement.{statement}
+use Rattle.set_ops.proofs.normalize_lent.Tie as tie
+
+wide-requires : tie.Need-wide-requires
+wide-requires c κs = search needs
+
+returns : tie.Need-returns
+returns c = search no-root
+
+normalize-in-requires : tie.Need-normalize-in-requires
+normalize-in-requires c κs = search needs
+
+enum-known-r : tie.Need-enum-known-r
+enum-known-r c = search needs
+
+enum-known-r-2 : tie.Need-enum-known-r-2
+enum-known-r-2 c = search needs
+
+take-back-requires : tie.Need-take-back-requires
+take-back-requires c κs = search needs
+
+take-back-requires-2 : tie.Need-take-back-requires-2
+take-back-requires-2 c κs = search needs
+
+same-length : tie.Need-same-length
+same-length c = search needs
+
+same-length-2 : tie.Need-same-length-2
+same-length-2 c = search needs
+
+returns-2 : tie.Need-returns-2
+returns-2 c = search run-done
+
+same-length-3 : tie.Need-same-length-3
+same-length-3 c = search needs
+
+same-length-4 : tie.Need-same-length-4
+same-length-4 c = search needs
+
+returns-3 : tie.Need-returns-3
+returns-3 c = search run-stopped
+
+pub normalize-lent-spec : {M : Type 1} → statement M
+normalize-lent-spec =
+    tie.close
+    (tie.spec
+    wide-requires
+    returns
+    normalize-in-requires
+    enum-known-r
+    enum-known-r-2
+    take-back-requires
+    take-back-requires-2
+    same-length
+    same-length-2
+    returns-2
+    same-length-3
+    same-length-4
+    returns-3)

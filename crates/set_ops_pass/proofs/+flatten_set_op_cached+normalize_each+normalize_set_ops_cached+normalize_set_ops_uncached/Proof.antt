@@ -1,0 +1,454 @@
+-- The cycle: the measure is three times the node's number, and then which half.
+use Prim.Native.Nat.{ℕ, _+_, _-_, _*_, _<_}
+use borrow.Author.Needs.{needs}
+use Rattle.recursion.specs.Work.{Grown}
+use Rattle.recursion.proofs.Remembering.{ready-small, cached-done, remember-room, remembered}
+use Rattle.recursion.proofs.Turns.{Turn, turn-start, turn-item, turn-falls, turn-ready, turn-refused, turn-more, turn-done}
+use Rattle.set_op_lists.specs.SetOps.{normalize}
+use Rattle.set_ops_pass.proofs.Normalizing.{lawful}
+use Rattle.set_ops_pass.proofs.Working.{ready-range, ready-wide, each-falls, same-falls, list-ready, children-ready, rebuilding, other-refused, other-done}
+use Rattle.set_ops_pass.proofs.Flattening.{FlatTurn, list-range, flat-start, flat-member, flat-falls, flat-ready, flat-brings, flat-refused, flat-more, flat-filled, flat-done}
+use borrow.Fn.Kinds.{In}
+use borrow.Fn.PlainCycle.{Measures, is, falls, and}
+use Rattle.set_ops_pass.proofs.flatten_set_op_cached.Reads as flatten-set-op-cached
+use Rattle.set_ops_pass.proofs.flatten_set_op_cached.Kinds as flatten-set-op-cached-kinds
+use Rattle.set_ops_pass.proofs.+flatten_set_op_cached+normalize_each+normalize_set_ops_cached+normalize_set_ops_uncached.Lts-flatten_set_op_cached as flatten-set-op-cached-lts
+use Rattle.set_ops_pass.proofs.normalize_each.Reads as normalize-each
+use Rattle.set_ops_pass.proofs.normalize_each.Kinds as normalize-each-kinds
+use Rattle.set_ops_pass.proofs.+flatten_set_op_cached+normalize_each+normalize_set_ops_cached+normalize_set_ops_uncached.Lts-normalize_each as normalize-each-lts
+use Rattle.set_ops_pass.proofs.normalize_set_ops_cached.Reads as normalize-set-ops-cached
+use Rattle.set_ops_pass.proofs.normalize_set_ops_cached.Kinds as normalize-set-ops-cached-kinds
+use Rattle.set_ops_pass.proofs.+flatten_set_op_cached+normalize_each+normalize_set_ops_cached+normalize_set_ops_uncached.Lts-normalize_set_ops_cached as normalize-set-ops-cached-lts
+use Rattle.set_ops_pass.proofs.normalize_set_ops_uncached.Reads as normalize-set-ops-uncached
+use Rattle.set_ops_pass.proofs.normalize_set_ops_uncached.Kinds as normalize-set-ops-uncached-kinds
+use Rattle.set_ops_pass.proofs.+flatten_set_op_cached+normalize_each+normalize_set_ops_cached+normalize_set_ops_uncached.Lts-normalize_set_ops_uncached as normalize-set-ops-uncached-lts
+use Rattle.rebuilding.proofs.children.all_children.Reads as all-children-reads
+use Rattle.rebuilding.proofs.node.rebuild.Reads as rebuild-reads
+use Rattle.recursion.proofs.cached.Reads as cached-reads
+use Rattle.recursion.proofs.item_at.Reads as item-at-reads
+use Rattle.recursion.proofs.remember.Reads as remember-reads
+use Rattle.set_op_lists.proofs.bring.Reads as bring-reads
+use Rattle.set_op_lists.proofs.close_list.Reads as close-list-reads
+use Rattle.set_ops_pass.proofs.member_at.Reads as member-at-reads
+use Rattle.set_ops_pass.proofs.member_count.Reads as member-count-reads
+use Rattle.walks.proofs.nodes.kind_at.Reads as kind-at-reads
+use Rattle.words.proofs.arc_ty.wide.Reads as wide-reads
+use Rattle.set_ops_pass.proofs.+flatten_set_op_cached+normalize_each+normalize_set_ops_cached+normalize_set_ops_uncached.{
+  statement,
+}
+use Rattle.set_ops_pass.proofs.+flatten_set_op_cached+normalize_each+normalize_set_ops_cached+normalize_set_ops_uncached.Tie.{
+  close,
+}
+
+abbrev μ-flatten-set-op-cached : Measures 3 flatten-set-op-cached-kinds.ps ℕ
+μ-flatten-set-op-cached κs a = 3 * (a .1 .1 .1 .0)
+
+abbrev μ-normalize-each : Measures 4 normalize-each-kinds.ps ℕ
+μ-normalize-each κs a = 3 * (a .1 .1 .1 .0)
+
+abbrev μ-normalize-set-ops-cached : Measures 3 normalize-set-ops-cached-kinds.ps ℕ
+μ-normalize-set-ops-cached κs a = 3 * (a .1 .1 .1 .0) + 2
+
+abbrev μ-normalize-set-ops-uncached : Measures 3 normalize-set-ops-uncached-kinds.ps ℕ
+μ-normalize-set-ops-uncached κs a = 3 * (a .1 .1 .1 .0) + 1
+
+abbrev flatten-set-op-cached-at : ℕ → In 3 flatten-set-op-cached-kinds.ps
+flatten-set-op-cached-at t =
+    and
+    3
+    flatten-set-op-cached-kinds.ps
+    (is 3 flatten-set-op-cached-kinds.ps μ-flatten-set-op-cached t)
+    flatten-set-op-cached.Pre
+
+abbrev flatten-set-op-cached-below : ℕ → In 3 flatten-set-op-cached-kinds.ps
+flatten-set-op-cached-below t =
+    and
+    3
+    flatten-set-op-cached-kinds.ps
+    (falls 3 flatten-set-op-cached-kinds.ps _<_ μ-flatten-set-op-cached t)
+    flatten-set-op-cached.Pre
+
+abbrev normalize-each-at : ℕ → In 4 normalize-each-kinds.ps
+normalize-each-at t =
+    and
+    4
+    normalize-each-kinds.ps
+    (is 4 normalize-each-kinds.ps μ-normalize-each t)
+    normalize-each.Pre
+
+abbrev normalize-each-below : ℕ → In 4 normalize-each-kinds.ps
+normalize-each-below t =
+    and
+    4
+    normalize-each-kinds.ps
+    (falls 4 normalize-each-kinds.ps _<_ μ-normalize-each t)
+    normalize-each.Pre
+
+abbrev normalize-set-ops-cached-at : ℕ → In 3 normalize-set-ops-cached-kinds.ps
+normalize-set-ops-cached-at t =
+    and
+    3
+    normalize-set-ops-cached-kinds.ps
+    (is 3 normalize-set-ops-cached-kinds.ps μ-normalize-set-ops-cached t)
+    normalize-set-ops-cached.Pre
+
+abbrev normalize-set-ops-cached-below : ℕ → In 3 normalize-set-ops-cached-kinds.ps
+normalize-set-ops-cached-below t =
+    and
+    3
+    normalize-set-ops-cached-kinds.ps
+    (falls 3 normalize-set-ops-cached-kinds.ps _<_ μ-normalize-set-ops-cached t)
+    normalize-set-ops-cached.Pre
+
+abbrev normalize-set-ops-uncached-at : ℕ → In 3 normalize-set-ops-uncached-kinds.ps
+normalize-set-ops-uncached-at t =
+    and
+    3
+    normalize-set-ops-uncached-kinds.ps
+    (is 3 normalize-set-ops-uncached-kinds.ps μ-normalize-set-ops-uncached t)
+    normalize-set-ops-uncached.Pre
+
+abbrev normalize-set-ops-uncached-below : ℕ → In 3 normalize-set-ops-uncached-kinds.ps
+normalize-set-ops-uncached-below t =
+    and
+    3
+    normalize-set-ops-uncached-kinds.ps
+    (falls 3 normalize-set-ops-uncached-kinds.ps _<_ μ-normalize-set-ops-uncached t)
+    normalize-set-ops-uncached.Pre
+
+abbrev flatten-set-op-cached-claims : ℕ → flatten-set-op-cached-lts.Claims
+flatten-set-op-cached-claims t = (member-count-reads.Asked, member-count-reads.Learnt, member-at-reads.Asked, member-at-reads.Learnt, normalize-set-ops-cached-below t, normalize-set-ops-cached.Post, bring-reads.Asked, bring-reads.Learnt, close-list-reads.Asked, close-list-reads.Learnt)
+
+abbrev normalize-each-claims : ℕ → normalize-each-lts.Claims
+normalize-each-claims t = (item-at-reads.Asked, item-at-reads.Learnt, normalize-set-ops-cached-below t, normalize-set-ops-cached.Post)
+
+abbrev normalize-set-ops-cached-claims : ℕ → normalize-set-ops-cached-lts.Claims
+normalize-set-ops-cached-claims t = (cached-reads.Asked, cached-reads.Learnt, normalize-set-ops-uncached-below t, normalize-set-ops-uncached.Post, remember-reads.Asked, remember-reads.Learnt)
+
+abbrev normalize-set-ops-uncached-claims : ℕ → normalize-set-ops-uncached-lts.Claims
+normalize-set-ops-uncached-claims t = (wide-reads.Asked, wide-reads.Learnt, kind-at-reads.Asked, kind-at-reads.Learnt, flatten-set-op-cached-below t, flatten-set-op-cached.Post, all-children-reads.Asked, all-children-reads.Learnt, normalize-each-below t, normalize-each.Post, rebuild-reads.Asked, rebuild-reads.Learnt)
+
+abbrev flatten-set-op-cached-Inv-loop : flatten-set-op-cached-lts.InvT-loop
+flatten-set-op-cached-Inv-loop words₀ starts₀ n kind cache₀ total items₀ held₀ last₀ i₀ words starts cache items held last i = FlatTurn words₀ starts₀ last₀ n kind cache₀ total words starts cache items held last i
+
+abbrev flatten-set-op-cached-μ-loop : flatten-set-op-cached-lts.MeasureT-loop
+flatten-set-op-cached-μ-loop words₀ starts₀ n kind cache₀ total items₀ held₀ last₀ i₀ words starts cache items held last i = total - i
+
+flatten-set-op-cached-member-count-requires : (t : ℕ) → flatten-set-op-cached-lts.Need-member-count-requires (flatten-set-op-cached-claims t) (flatten-set-op-cached-at t) flatten-set-op-cached.Post flatten-set-op-cached-Inv-loop flatten-set-op-cached-μ-loop
+flatten-set-op-cached-member-count-requires t c κs = search list-range
+
+flatten-set-op-cached-loop-holds : (t : ℕ) → flatten-set-op-cached-lts.Need-loop-holds (flatten-set-op-cached-claims t) (flatten-set-op-cached-at t) flatten-set-op-cached.Post flatten-set-op-cached-Inv-loop flatten-set-op-cached-μ-loop
+flatten-set-op-cached-loop-holds t c = search flat-start
+
+flatten-set-op-cached-member-at-requires : (t : ℕ) → flatten-set-op-cached-lts.Need-member-at-requires (flatten-set-op-cached-claims t) (flatten-set-op-cached-at t) flatten-set-op-cached.Post flatten-set-op-cached-Inv-loop flatten-set-op-cached-μ-loop
+flatten-set-op-cached-member-at-requires t c κs = search flat-member
+
+flatten-set-op-cached-normalize-set-ops-cached-requires : (t : ℕ) → flatten-set-op-cached-lts.Need-normalize-set-ops-cached-requires (flatten-set-op-cached-claims t) (flatten-set-op-cached-at t) flatten-set-op-cached.Post flatten-set-op-cached-Inv-loop flatten-set-op-cached-μ-loop
+flatten-set-op-cached-normalize-set-ops-cached-requires t c κs = (search flat-falls, search flat-ready)
+
+flatten-set-op-cached-bring-requires : (t : ℕ) → flatten-set-op-cached-lts.Need-bring-requires (flatten-set-op-cached-claims t) (flatten-set-op-cached-at t) flatten-set-op-cached.Post flatten-set-op-cached-Inv-loop flatten-set-op-cached-μ-loop
+flatten-set-op-cached-bring-requires t c κs = flat-brings (c .before .before .before .before .before .before .before .before .before .before .before .before .before .before .before .loop .inv) (c .before .before .before .before .before .before .before .before .before .before .before .before .before .before .loop-test .taken) (c .before .before .before .before .before .before .before .before .before .before .before .member-at .ensures) (c .before .before .before .before .before .before .before .normalize-set-ops-cached .ensures)
+
+flatten-set-op-cached-enum-known-b : (t : ℕ) → flatten-set-op-cached-lts.Need-enum-known-b (flatten-set-op-cached-claims t) (flatten-set-op-cached-at t) flatten-set-op-cached.Post flatten-set-op-cached-Inv-loop flatten-set-op-cached-μ-loop
+flatten-set-op-cached-enum-known-b t c = search needs
+
+flatten-set-op-cached-same-length : (t : ℕ) → flatten-set-op-cached-lts.Need-same-length (flatten-set-op-cached-claims t) (flatten-set-op-cached-at t) flatten-set-op-cached.Post flatten-set-op-cached-Inv-loop flatten-set-op-cached-μ-loop
+flatten-set-op-cached-same-length t c = search needs
+
+flatten-set-op-cached-same-length-2 : (t : ℕ) → flatten-set-op-cached-lts.Need-same-length-2 (flatten-set-op-cached-claims t) (flatten-set-op-cached-at t) flatten-set-op-cached.Post flatten-set-op-cached-Inv-loop flatten-set-op-cached-μ-loop
+flatten-set-op-cached-same-length-2 t c = search needs
+
+flatten-set-op-cached-returns : (t : ℕ) → flatten-set-op-cached-lts.Need-returns (flatten-set-op-cached-claims t) (flatten-set-op-cached-at t) flatten-set-op-cached.Post flatten-set-op-cached-Inv-loop flatten-set-op-cached-μ-loop
+flatten-set-op-cached-returns t c = search (flat-refused (c .before .before .before .before .before .before .before .before .before .before .before .before .before .before .before .before .before .before .before .loop .inv) (c .before .before .before .before .before .before .before .before .before .before .before .before .before .before .before .before .before .before .loop-test .taken) (c .before .before .before .before .before .before .before .before .before .before .before .before .before .before .before .member-at .ensures) (c .before .before .before .before .before .before .before .before .before .before .before .normalize-set-ops-cached .ensures) (c .before .before .before .bring .ensures))
+
+flatten-set-op-cached-enum-known-b-2 : (t : ℕ) → flatten-set-op-cached-lts.Need-enum-known-b-2 (flatten-set-op-cached-claims t) (flatten-set-op-cached-at t) flatten-set-op-cached.Post flatten-set-op-cached-Inv-loop flatten-set-op-cached-μ-loop
+flatten-set-op-cached-enum-known-b-2 t c = search needs
+
+flatten-set-op-cached-add-i : (t : ℕ) → flatten-set-op-cached-lts.Need-add-i (flatten-set-op-cached-claims t) (flatten-set-op-cached-at t) flatten-set-op-cached.Post flatten-set-op-cached-Inv-loop flatten-set-op-cached-μ-loop
+flatten-set-op-cached-add-i t c = search needs
+
+flatten-set-op-cached-loop-less : (t : ℕ) → flatten-set-op-cached-lts.Need-loop-less (flatten-set-op-cached-claims t) (flatten-set-op-cached-at t) flatten-set-op-cached.Post flatten-set-op-cached-Inv-loop flatten-set-op-cached-μ-loop
+flatten-set-op-cached-loop-less t c = search needs
+
+flatten-set-op-cached-loop-again : (t : ℕ) → flatten-set-op-cached-lts.Need-loop-again (flatten-set-op-cached-claims t) (flatten-set-op-cached-at t) flatten-set-op-cached.Post flatten-set-op-cached-Inv-loop flatten-set-op-cached-μ-loop
+flatten-set-op-cached-loop-again t c = search (flat-more (c .before .before .before .before .before .before .before .before .before .before .before .before .before .before .before .before .before .before .before .loop .inv) (c .before .before .before .before .before .before .before .before .before .before .before .before .before .before .before .before .before .before .loop-test .taken) (c .before .before .before .before .before .before .before .before .before .before .before .before .before .before .before .member-at .ensures) (c .before .before .before .before .before .before .before .before .before .before .before .normalize-set-ops-cached .ensures) (c .before .before .before .bring .ensures))
+
+flatten-set-op-cached-close-list-requires : (t : ℕ) → flatten-set-op-cached-lts.Need-close-list-requires (flatten-set-op-cached-claims t) (flatten-set-op-cached-at t) flatten-set-op-cached.Post flatten-set-op-cached-Inv-loop flatten-set-op-cached-μ-loop
+flatten-set-op-cached-close-list-requires t c κs = search flat-filled
+
+flatten-set-op-cached-same-length-3 : (t : ℕ) → flatten-set-op-cached-lts.Need-same-length-3 (flatten-set-op-cached-claims t) (flatten-set-op-cached-at t) flatten-set-op-cached.Post flatten-set-op-cached-Inv-loop flatten-set-op-cached-μ-loop
+flatten-set-op-cached-same-length-3 t c = search needs
+
+flatten-set-op-cached-same-length-4 : (t : ℕ) → flatten-set-op-cached-lts.Need-same-length-4 (flatten-set-op-cached-claims t) (flatten-set-op-cached-at t) flatten-set-op-cached.Post flatten-set-op-cached-Inv-loop flatten-set-op-cached-μ-loop
+flatten-set-op-cached-same-length-4 t c = search needs
+
+flatten-set-op-cached-returns-2 : (t : ℕ) → flatten-set-op-cached-lts.Need-returns-2 (flatten-set-op-cached-claims t) (flatten-set-op-cached-at t) flatten-set-op-cached.Post flatten-set-op-cached-Inv-loop flatten-set-op-cached-μ-loop
+flatten-set-op-cached-returns-2 t c = search flat-done
+
+abbrev normalize-each-Inv-loop : normalize-each-lts.InvT-loop
+normalize-each-Inv-loop words₀ starts₀ n items₀ count cache₀ last₀ i₀ words starts items cache last i = Turn normalize Grown words₀ starts₀ last₀ n items₀ count cache₀ words starts items cache last i
+
+abbrev normalize-each-μ-loop : normalize-each-lts.MeasureT-loop
+normalize-each-μ-loop words₀ starts₀ n items₀ count cache₀ last₀ i₀ words starts items cache last i = count - i
+
+normalize-each-loop-holds : (t : ℕ) → normalize-each-lts.Need-loop-holds (normalize-each-claims t) (normalize-each-at t) normalize-each.Post normalize-each-Inv-loop normalize-each-μ-loop
+normalize-each-loop-holds t c = search turn-start
+
+normalize-each-item-at-requires : (t : ℕ) → normalize-each-lts.Need-item-at-requires (normalize-each-claims t) (normalize-each-at t) normalize-each.Post normalize-each-Inv-loop normalize-each-μ-loop
+normalize-each-item-at-requires t c κs = search turn-item
+
+normalize-each-normalize-set-ops-cached-requires : (t : ℕ) → normalize-each-lts.Need-normalize-set-ops-cached-requires (normalize-each-claims t) (normalize-each-at t) normalize-each.Post normalize-each-Inv-loop normalize-each-μ-loop
+normalize-each-normalize-set-ops-cached-requires t c κs = (search turn-falls, search (turn-ready, lawful))
+
+normalize-each-enum-known-r : (t : ℕ) → normalize-each-lts.Need-enum-known-r (normalize-each-claims t) (normalize-each-at t) normalize-each.Post normalize-each-Inv-loop normalize-each-μ-loop
+normalize-each-enum-known-r t c = search needs
+
+normalize-each-same-length : (t : ℕ) → normalize-each-lts.Need-same-length (normalize-each-claims t) (normalize-each-at t) normalize-each.Post normalize-each-Inv-loop normalize-each-μ-loop
+normalize-each-same-length t c = search needs
+
+normalize-each-same-length-2 : (t : ℕ) → normalize-each-lts.Need-same-length-2 (normalize-each-claims t) (normalize-each-at t) normalize-each.Post normalize-each-Inv-loop normalize-each-μ-loop
+normalize-each-same-length-2 t c = search needs
+
+normalize-each-returns : (t : ℕ) → normalize-each-lts.Need-returns (normalize-each-claims t) (normalize-each-at t) normalize-each.Post normalize-each-Inv-loop normalize-each-μ-loop
+normalize-each-returns t c = search (turn-refused (c .before .before .before .before .before .before .before .before .before .before .before .before .before .before .loop .inv) (c .before .before .before .before .before .before .before .before .before .before .before .before .before .loop-test .taken) (c .before .before .before .before .before .before .before .before .before .before .before .item-at .ensures) lawful (c .before .before .before .before .before .before .before .normalize-set-ops-cached .ensures))
+
+normalize-each-enum-known-r-2 : (t : ℕ) → normalize-each-lts.Need-enum-known-r-2 (normalize-each-claims t) (normalize-each-at t) normalize-each.Post normalize-each-Inv-loop normalize-each-μ-loop
+normalize-each-enum-known-r-2 t c = search needs
+
+normalize-each-mul-items : (t : ℕ) → normalize-each-lts.Need-mul-items (normalize-each-claims t) (normalize-each-at t) normalize-each.Post normalize-each-Inv-loop normalize-each-μ-loop
+normalize-each-mul-items t c = search needs
+
+normalize-each-element-write-items : (t : ℕ) → normalize-each-lts.Need-element-write-items (normalize-each-claims t) (normalize-each-at t) normalize-each.Post normalize-each-Inv-loop normalize-each-μ-loop
+normalize-each-element-write-items t c = search needs
+
+normalize-each-add-i : (t : ℕ) → normalize-each-lts.Need-add-i (normalize-each-claims t) (normalize-each-at t) normalize-each.Post normalize-each-Inv-loop normalize-each-μ-loop
+normalize-each-add-i t c = search needs
+
+normalize-each-loop-less : (t : ℕ) → normalize-each-lts.Need-loop-less (normalize-each-claims t) (normalize-each-at t) normalize-each.Post normalize-each-Inv-loop normalize-each-μ-loop
+normalize-each-loop-less t c = search needs
+
+normalize-each-loop-again : (t : ℕ) → normalize-each-lts.Need-loop-again (normalize-each-claims t) (normalize-each-at t) normalize-each.Post normalize-each-Inv-loop normalize-each-μ-loop
+normalize-each-loop-again t c = search (turn-more (c .before .before .before .before .before .before .before .before .before .before .before .before .before .before .loop .inv) (c .before .before .before .before .before .before .before .before .before .before .before .before .before .loop-test .taken) (c .before .before .before .before .before .before .before .before .before .before .before .item-at .ensures) lawful (c .before .before .before .before .before .before .before .normalize-set-ops-cached .ensures))
+
+normalize-each-same-length-3 : (t : ℕ) → normalize-each-lts.Need-same-length-3 (normalize-each-claims t) (normalize-each-at t) normalize-each.Post normalize-each-Inv-loop normalize-each-μ-loop
+normalize-each-same-length-3 t c = search needs
+
+normalize-each-same-length-4 : (t : ℕ) → normalize-each-lts.Need-same-length-4 (normalize-each-claims t) (normalize-each-at t) normalize-each.Post normalize-each-Inv-loop normalize-each-μ-loop
+normalize-each-same-length-4 t c = search needs
+
+normalize-each-returns-2 : (t : ℕ) → normalize-each-lts.Need-returns-2 (normalize-each-claims t) (normalize-each-at t) normalize-each.Post normalize-each-Inv-loop normalize-each-μ-loop
+normalize-each-returns-2 t c = search turn-done
+
+normalize-set-ops-cached-cached-requires : (t : ℕ) → normalize-set-ops-cached-lts.Need-cached-requires (normalize-set-ops-cached-claims t) (normalize-set-ops-cached-at t) normalize-set-ops-cached.Post
+normalize-set-ops-cached-cached-requires t c κs = search (ready-small, lawful)
+
+normalize-set-ops-cached-sub-t12 : (t : ℕ) → normalize-set-ops-cached-lts.Need-sub-t12 (normalize-set-ops-cached-claims t) (normalize-set-ops-cached-at t) normalize-set-ops-cached.Post
+normalize-set-ops-cached-sub-t12 t c = search needs
+
+normalize-set-ops-cached-returns : (t : ℕ) → normalize-set-ops-cached-lts.Need-returns (normalize-set-ops-cached-claims t) (normalize-set-ops-cached-at t) normalize-set-ops-cached.Post
+normalize-set-ops-cached-returns t c = search (cached-done, lawful)
+
+normalize-set-ops-cached-normalize-set-ops-uncached-requires : (t : ℕ) → normalize-set-ops-cached-lts.Need-normalize-set-ops-uncached-requires (normalize-set-ops-cached-claims t) (normalize-set-ops-cached-at t) normalize-set-ops-cached.Post
+normalize-set-ops-cached-normalize-set-ops-uncached-requires t c κs = (search same-falls, search needs)
+
+normalize-set-ops-cached-enum-known-r : (t : ℕ) → normalize-set-ops-cached-lts.Need-enum-known-r (normalize-set-ops-cached-claims t) (normalize-set-ops-cached-at t) normalize-set-ops-cached.Post
+normalize-set-ops-cached-enum-known-r t c = search needs
+
+normalize-set-ops-cached-enum-told : (t : ℕ) → normalize-set-ops-cached-lts.Need-enum-told (normalize-set-ops-cached-claims t) (normalize-set-ops-cached-at t) normalize-set-ops-cached.Post
+normalize-set-ops-cached-enum-told t c = search needs
+
+normalize-set-ops-cached-same-length : (t : ℕ) → normalize-set-ops-cached-lts.Need-same-length (normalize-set-ops-cached-claims t) (normalize-set-ops-cached-at t) normalize-set-ops-cached.Post
+normalize-set-ops-cached-same-length t c = search needs
+
+normalize-set-ops-cached-same-length-2 : (t : ℕ) → normalize-set-ops-cached-lts.Need-same-length-2 (normalize-set-ops-cached-claims t) (normalize-set-ops-cached-at t) normalize-set-ops-cached.Post
+normalize-set-ops-cached-same-length-2 t c = search needs
+
+normalize-set-ops-cached-returns-2 : (t : ℕ) → normalize-set-ops-cached-lts.Need-returns-2 (normalize-set-ops-cached-claims t) (normalize-set-ops-cached-at t) normalize-set-ops-cached.Post
+normalize-set-ops-cached-returns-2 t c = search needs
+
+normalize-set-ops-cached-remember-requires : (t : ℕ) → normalize-set-ops-cached-lts.Need-remember-requires (normalize-set-ops-cached-claims t) (normalize-set-ops-cached-at t) normalize-set-ops-cached.Post
+normalize-set-ops-cached-remember-requires t c κs = search (remember-room lawful (c .before .before .before .before .before .before .before .before .before .before .before .before .before .before .before .before .before .pre .1) (c .before .before .before .before .before .before .before .before .normalize-set-ops-uncached .ensures))
+
+normalize-set-ops-cached-same-length-3 : (t : ℕ) → normalize-set-ops-cached-lts.Need-same-length-3 (normalize-set-ops-cached-claims t) (normalize-set-ops-cached-at t) normalize-set-ops-cached.Post
+normalize-set-ops-cached-same-length-3 t c = search needs
+
+normalize-set-ops-cached-same-length-4 : (t : ℕ) → normalize-set-ops-cached-lts.Need-same-length-4 (normalize-set-ops-cached-claims t) (normalize-set-ops-cached-at t) normalize-set-ops-cached.Post
+normalize-set-ops-cached-same-length-4 t c = search needs
+
+normalize-set-ops-cached-returns-3 : (t : ℕ) → normalize-set-ops-cached-lts.Need-returns-3 (normalize-set-ops-cached-claims t) (normalize-set-ops-cached-at t) normalize-set-ops-cached.Post
+normalize-set-ops-cached-returns-3 t c = search (remembered, lawful)
+
+normalize-set-ops-uncached-wide-requires : (t : ℕ) → normalize-set-ops-uncached-lts.Need-wide-requires (normalize-set-ops-uncached-claims t) (normalize-set-ops-uncached-at t) normalize-set-ops-uncached.Post
+normalize-set-ops-uncached-wide-requires t c κs = search needs
+
+normalize-set-ops-uncached-kind-at-requires : (t : ℕ) → normalize-set-ops-uncached-lts.Need-kind-at-requires (normalize-set-ops-uncached-claims t) (normalize-set-ops-uncached-at t) normalize-set-ops-uncached.Post
+normalize-set-ops-uncached-kind-at-requires t c κs = search ready-wide
+
+normalize-set-ops-uncached-flatten-set-op-cached-requires : (t : ℕ) → normalize-set-ops-uncached-lts.Need-flatten-set-op-cached-requires (normalize-set-ops-uncached-claims t) (normalize-set-ops-uncached-at t) normalize-set-ops-uncached.Post
+normalize-set-ops-uncached-flatten-set-op-cached-requires t c κs = (search each-falls, search list-ready)
+
+normalize-set-ops-uncached-same-length : (t : ℕ) → normalize-set-ops-uncached-lts.Need-same-length (normalize-set-ops-uncached-claims t) (normalize-set-ops-uncached-at t) normalize-set-ops-uncached.Post
+normalize-set-ops-uncached-same-length t c = search needs
+
+normalize-set-ops-uncached-same-length-2 : (t : ℕ) → normalize-set-ops-uncached-lts.Need-same-length-2 (normalize-set-ops-uncached-claims t) (normalize-set-ops-uncached-at t) normalize-set-ops-uncached.Post
+normalize-set-ops-uncached-same-length-2 t c = search needs
+
+normalize-set-ops-uncached-returns : (t : ℕ) → normalize-set-ops-uncached-lts.Need-returns (normalize-set-ops-uncached-claims t) (normalize-set-ops-uncached-at t) normalize-set-ops-uncached.Post
+normalize-set-ops-uncached-returns t c = search needs
+
+normalize-set-ops-uncached-all-children-requires : (t : ℕ) → normalize-set-ops-uncached-lts.Need-all-children-requires (normalize-set-ops-uncached-claims t) (normalize-set-ops-uncached-at t) normalize-set-ops-uncached.Post
+normalize-set-ops-uncached-all-children-requires t c κs = search ready-range
+
+normalize-set-ops-uncached-normalize-each-requires : (t : ℕ) → normalize-set-ops-uncached-lts.Need-normalize-each-requires (normalize-set-ops-uncached-claims t) (normalize-set-ops-uncached-at t) normalize-set-ops-uncached.Post
+normalize-set-ops-uncached-normalize-each-requires t c κs = (search each-falls, search children-ready)
+
+normalize-set-ops-uncached-enum-known-r : (t : ℕ) → normalize-set-ops-uncached-lts.Need-enum-known-r (normalize-set-ops-uncached-claims t) (normalize-set-ops-uncached-at t) normalize-set-ops-uncached.Post
+normalize-set-ops-uncached-enum-known-r t c = search needs
+
+normalize-set-ops-uncached-rebuild-requires : (t : ℕ) → normalize-set-ops-uncached-lts.Need-rebuild-requires (normalize-set-ops-uncached-claims t) (normalize-set-ops-uncached-at t) normalize-set-ops-uncached.Post
+normalize-set-ops-uncached-rebuild-requires t c κs = rebuilding (c .before .before .before .before .before .before .before .before .before .before .before .before .before .before .before .before .before .before .before .before .before .before .before .before .before .before .pre .1) (c .before .before .before .before .before .before .before .before .before .before .before .before .before .before .before .before .all-children .ensures) (c .before .before .before .before .before .before .before .before .before .before .before .normalize-each .ensures) (c .before .before .before .before .before .r .given .1)
+
+normalize-set-ops-uncached-enum-known-r-2 : (t : ℕ) → normalize-set-ops-uncached-lts.Need-enum-known-r-2 (normalize-set-ops-uncached-claims t) (normalize-set-ops-uncached-at t) normalize-set-ops-uncached.Post
+normalize-set-ops-uncached-enum-known-r-2 t c = search needs
+
+normalize-set-ops-uncached-same-length-3 : (t : ℕ) → normalize-set-ops-uncached-lts.Need-same-length-3 (normalize-set-ops-uncached-claims t) (normalize-set-ops-uncached-at t) normalize-set-ops-uncached.Post
+normalize-set-ops-uncached-same-length-3 t c = search needs
+
+normalize-set-ops-uncached-same-length-4 : (t : ℕ) → normalize-set-ops-uncached-lts.Need-same-length-4 (normalize-set-ops-uncached-claims t) (normalize-set-ops-uncached-at t) normalize-set-ops-uncached.Post
+normalize-set-ops-uncached-same-length-4 t c = search needs
+
+normalize-set-ops-uncached-returns-2 : (t : ℕ) → normalize-set-ops-uncached-lts.Need-returns-2 (normalize-set-ops-uncached-claims t) (normalize-set-ops-uncached-at t) normalize-set-ops-uncached.Post
+normalize-set-ops-uncached-returns-2 t c = search (other-done (c .before .before .before .before .before .before .before .before .before .before .before .before .before .before .before .before .before .before .before .before .before .before .before .before .before .before .before .before .before .before .before .pre .1) (c .before .before .before .before .before .before .before .before .before .before .before .before .before .before .before .before .before .before .before .before .before .before .before .before .before .before .wide .ensures) (c .before .before .before .before .before .before .before .before .before .before .before .before .before .before .before .before .before .before .before .before .before .before .before .before .before .kind-at .ensures) (c .before .before .before .before .before .before .before .before .before .before .before .before .before .before .before .before .before .before .before .before .before .all-children .ensures) (c .before .before .before .before .before .before .before .before .before .before .before .before .before .before .before .before .normalize-each .ensures) (c .before .before .before .before .before .before .before .before .before .before .r .given .1) (c .before .before .before .before .rebuild .ensures))
+
+normalize-set-ops-uncached-same-length-5 : (t : ℕ) → normalize-set-ops-uncached-lts.Need-same-length-5 (normalize-set-ops-uncached-claims t) (normalize-set-ops-uncached-at t) normalize-set-ops-uncached.Post
+normalize-set-ops-uncached-same-length-5 t c = search needs
+
+normalize-set-ops-uncached-same-length-6 : (t : ℕ) → normalize-set-ops-uncached-lts.Need-same-length-6 (normalize-set-ops-uncached-claims t) (normalize-set-ops-uncached-at t) normalize-set-ops-uncached.Post
+normalize-set-ops-uncached-same-length-6 t c = search needs
+
+normalize-set-ops-uncached-returns-3 : (t : ℕ) → normalize-set-ops-uncached-lts.Need-returns-3 (normalize-set-ops-uncached-claims t) (normalize-set-ops-uncached-at t) normalize-set-ops-uncached.Post
+normalize-set-ops-uncached-returns-3 t c = search other-refused
+
+pub +flatten-set-op-cached+normalize-each+normalize-set-ops-cached+normalize-set-ops-uncached-spec :
+    {M : Type 1} → statement M
++flatten-set-op-cached+normalize-each+normalize-set-ops-cached+normalize-set-ops-uncached-spec =
+    close
+    μ-flatten-set-op-cached
+    μ-normalize-each
+    μ-normalize-set-ops-cached
+    μ-normalize-set-ops-uncached
+    (λ t. flatten-set-op-cached-lts.spec (
+      member-count-reads.Asked,
+      member-count-reads.Learnt,
+      member-at-reads.Asked,
+      member-at-reads.Learnt,
+      normalize-set-ops-cached-below t,
+      normalize-set-ops-cached.Post,
+      bring-reads.Asked,
+      bring-reads.Learnt,
+      close-list-reads.Asked,
+      close-list-reads.Learnt,
+    )
+    (flatten-set-op-cached-at t)
+    flatten-set-op-cached.Post
+    flatten-set-op-cached-Inv-loop
+    flatten-set-op-cached-μ-loop
+    (flatten-set-op-cached-member-count-requires t)
+    (flatten-set-op-cached-loop-holds t)
+    (flatten-set-op-cached-member-at-requires t)
+    (flatten-set-op-cached-normalize-set-ops-cached-requires t)
+    (flatten-set-op-cached-bring-requires t)
+    (flatten-set-op-cached-enum-known-b t)
+    (flatten-set-op-cached-same-length t)
+    (flatten-set-op-cached-same-length-2 t)
+    (flatten-set-op-cached-returns t)
+    (flatten-set-op-cached-enum-known-b-2 t)
+    (flatten-set-op-cached-add-i t)
+    (flatten-set-op-cached-loop-less t)
+    (flatten-set-op-cached-loop-again t)
+    (flatten-set-op-cached-close-list-requires t)
+    (flatten-set-op-cached-same-length-3 t)
+    (flatten-set-op-cached-same-length-4 t)
+    (flatten-set-op-cached-returns-2 t))
+    (λ t. normalize-each-lts.spec (
+      item-at-reads.Asked,
+      item-at-reads.Learnt,
+      normalize-set-ops-cached-below t,
+      normalize-set-ops-cached.Post,
+    )
+    (normalize-each-at t)
+    normalize-each.Post
+    normalize-each-Inv-loop
+    normalize-each-μ-loop
+    (normalize-each-loop-holds t)
+    (normalize-each-item-at-requires t)
+    (normalize-each-normalize-set-ops-cached-requires t)
+    (normalize-each-enum-known-r t)
+    (normalize-each-same-length t)
+    (normalize-each-same-length-2 t)
+    (normalize-each-returns t)
+    (normalize-each-enum-known-r-2 t)
+    (normalize-each-mul-items t)
+    (normalize-each-element-write-items t)
+    (normalize-each-add-i t)
+    (normalize-each-loop-less t)
+    (normalize-each-loop-again t)
+    (normalize-each-same-length-3 t)
+    (normalize-each-same-length-4 t)
+    (normalize-each-returns-2 t))
+    (λ t. normalize-set-ops-cached-lts.spec (
+      cached-reads.Asked,
+      cached-reads.Learnt,
+      normalize-set-ops-uncached-below t,
+      normalize-set-ops-uncached.Post,
+      remember-reads.Asked,
+      remember-reads.Learnt,
+    )
+    (normalize-set-ops-cached-at t)
+    normalize-set-ops-cached.Post
+    (normalize-set-ops-cached-cached-requires t)
+    (normalize-set-ops-cached-sub-t12 t)
+    (normalize-set-ops-cached-returns t)
+    (normalize-set-ops-cached-normalize-set-ops-uncached-requires t)
+    (normalize-set-ops-cached-enum-known-r t)
+    (normalize-set-ops-cached-enum-told t)
+    (normalize-set-ops-cached-same-length t)
+    (normalize-set-ops-cached-same-length-2 t)
+    (normalize-set-ops-cached-returns-2 t)
+    (normalize-set-ops-cached-remember-requires t)
+    (normalize-set-ops-cached-same-length-3 t)
+    (normalize-set-ops-cached-same-length-4 t)
+    (normalize-set-ops-cached-returns-3 t))
+    λ t. normalize-set-ops-uncached-lts.spec (
+      wide-reads.Asked,
+      wide-reads.Learnt,
+      kind-at-reads.Asked,
+      kind-at-reads.Learnt,
+      flatten-set-op-cached-below t,
+      flatten-set-op-cached.Post,
+      all-children-reads.Asked,
+      all-children-reads.Learnt,
+      normalize-each-below t,
+      normalize-each.Post,
+      rebuild-reads.Asked,
+      rebuild-reads.Learnt,
+    )
+    (normalize-set-ops-uncached-at t)
+    normalize-set-ops-uncached.Post
+    (normalize-set-ops-uncached-wide-requires t)
+    (normalize-set-ops-uncached-kind-at-requires t)
+    (normalize-set-ops-uncached-flatten-set-op-cached-requires t)
+    (normalize-set-ops-uncached-same-length t)
+    (normalize-set-ops-uncached-same-length-2 t)
+    (normalize-set-ops-uncached-returns t)
+    (normalize-set-ops-uncached-all-children-requires t)
+    (normalize-set-ops-uncached-normalize-each-requires t)
+    (normalize-set-ops-uncached-enum-known-r t)
+    (normalize-set-ops-uncached-rebuild-requires t)
+    (normalize-set-ops-uncached-enum-known-r-2 t)
+    (normalize-set-ops-uncached-same-length-3 t)
+    (normalize-set-ops-uncached-same-length-4 t)
+    (normalize-set-ops-uncached-returns-2 t)
+    (normalize-set-ops-uncached-same-length-5 t)
+    (normalize-set-ops-uncached-same-length-6 t)
+    (normalize-set-ops-uncached-returns-3 t)

@@ -1,0 +1,3 @@
+pub mod Normalizing
+pub mod Working
+pub mod Flattening

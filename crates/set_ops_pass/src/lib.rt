@@ -1,0 +1,153 @@
+// The recursion of `normalize_set_ops`: a member list is flattened and sorted, any other node is rebuilt from what its children
+// become. A refusal is passed up, and memory then begins with the arena as it was.
+use arena::added::Interned;
+use arena::stored::node_at;
+use rebuilding::children::all_children;
+use rebuilding::node::rebuild;
+use recursion::Run;
+use recursion::cached;
+use recursion::item_at;
+use recursion::remember;
+use set_op_lists::Brought;
+use set_op_lists::bring;
+use set_op_lists::close_list;
+use types::Counters;
+use types::arc_ty::Head;
+use types::arc_ty::wide;
+use walks::children::child_at;
+use walks::children::child_count;
+use walks::nodes::kind_at;
+ghost use Rattle.arena.specs.Stored.{InRange};
+ghost use Rattle.recursion.specs.Work.{Grown, Ready, Does, EachReady, DoesEach};
+ghost use Rattle.set_op_lists.specs.SetOps.{normalize};
+ghost use Rattle.set_ops_pass.specs.Inner.{ListReady, MemberCount, MemberThere, MemberAt};
+
+// How many members the list n has.
+fn member_count(words: &[u32], starts: &[u32], c: Counters, n: u32) -> usize
+    requires { ⌜ InRange (now words) (now starts) c n ⌝ }
+    ensures { λ r. ⌜ MemberCount (now (words .entry)) (now (starts .entry)) c n r ⌝ }
+{
+    child_count(node_at(words, starts, c, wide(n)))
+}
+
+// Member i of the list n. It is read when its turn comes: the words of a node stay as they are while others are added.
+fn member_at(words: &[u32], starts: &[u32], c: Counters, n: u32, i: usize) -> u32
+    requires { ⌜ MemberThere (now words) (now starts) c n i ⌝ }
+    ensures { λ r. ⌜ MemberAt (now (words .entry)) (now (starts .entry)) c n i r ⌝ }
+{
+    child_at(node_at(words, starts, c, wide(n)), i)
+}
+
+// What node n becomes, remembered.
+pub fn normalize_set_ops_cached(
+    words: &mut [u32],
+    starts: &mut [u32],
+    c: Counters,
+    n: u32,
+    cache: &mut [u32; 4096],
+) -> Interned
+    requires { ⌜ Ready normalize Grown (now words) (now starts) c n (now cache) ⌝ }
+    ensures { λ r. ⌜ Does normalize Grown (now (words .entry)) (now (starts .entry)) c n (now (cache .entry)) (now (words .exit)) (now (starts .exit)) (now (cache .exit)) r ⌝ }
+{
+    let hit = cached(cache, n);
+    if hit != 0 {
+        return Interned::Node(hit - 1, c);
+    }
+    let r = normalize_set_ops_uncached(words, starts, c, n, cache);
+    let Interned::Node(m, d) = r else {
+        return r;
+    };
+    remember(cache, n, m);
+    Interned::Node(m, d)
+}
+
+// The same, worked out.
+fn normalize_set_ops_uncached(
+    words: &mut [u32],
+    starts: &mut [u32],
+    c: Counters,
+    n: u32,
+    cache: &mut [u32; 4096],
+) -> Interned
+    requires { ⌜ Ready normalize Grown (now words) (now starts) c n (now cache) ⌝ }
+    ensures { λ r. ⌜ Does normalize Grown (now (words .entry)) (now (starts .entry)) c n (now (cache .entry)) (now (words .exit)) (now (starts .exit)) (now (cache .exit)) r ⌝ }
+{
+    let kind = kind_at(words, starts, c, wide(n));
+    if (kind == Head::UNION) | (kind == Head::INTERSECTION) {
+        return flatten_set_op_cached(words, starts, c, n, kind, cache);
+    }
+    let mut list = all_children(words, starts, c, n);
+    let count = list.count;
+    let r = normalize_each(words, starts, c, n, &mut list.items, count, cache);
+    match r {
+        Run::Went(d) => rebuild(words, starts, d, n, &list.items, count),
+        Run::Refused(number) => Interned::Refused(number),
+    }
+}
+
+// A member list: what each member brings is appended before the next is normalized.
+fn flatten_set_op_cached(
+    words: &mut [u32],
+    starts: &mut [u32],
+    c: Counters,
+    n: u32,
+    kind: u32,
+    cache: &mut [u32; 4096],
+) -> Interned
+    requires { ⌜ ListReady (now words) (now starts) c n kind (now cache) ⌝ }
+    ensures { λ r. ⌜ Does normalize Grown (now (words .entry)) (now (starts .entry)) c n (now (cache .entry)) (now (words .exit)) (now (starts .exit)) (now (cache .exit)) r ⌝ }
+{
+    let total = member_count(words, starts, c, n);
+    let mut items = [0u32; 64];
+    let mut held = 0;
+    let mut last = c;
+    let mut i = 0;
+    while i < total {
+        let member = member_at(words, starts, last, n, i);
+        let r = normalize_set_ops_cached(words, starts, last, member, cache);
+        let b = bring(words, starts, r, kind, &mut items, held);
+        match b {
+            Brought::Refused(number) => {
+                return Interned::Refused(number);
+            }
+            Brought::Held(next, d) => {
+                held = next;
+                last = d;
+            }
+        }
+        i += 1;
+    }
+    close_list(words, starts, last, kind, &items, held)
+}
+
+// What each of the first `count` items becomes, in its place; all are below n.
+fn normalize_each(
+    words: &mut [u32],
+    starts: &mut [u32],
+    c: Counters,
+    n: u32,
+    items: &mut [u32; 65],
+    count: usize,
+    cache: &mut [u32; 4096],
+) -> Run
+    requires { ⌜ EachReady normalize Grown (now words) (now starts) c n (now items) count (now cache) ⌝ }
+    ensures { λ r. ⌜ DoesEach normalize Grown (now (words .entry)) (now (starts .entry)) c n (now (items .entry)) count (now (cache .entry)) (now (words .exit)) (now (starts .exit)) (now (items .exit)) (now (cache .exit)) r ⌝ }
+{
+    let mut last = c;
+    let mut i = 0;
+    while i < count {
+        let item = item_at(items, i);
+        let r = normalize_set_ops_cached(words, starts, last, item, cache);
+        match r {
+            Interned::Refused(number) => {
+                return Run::Refused(number);
+            }
+            Interned::Node(m, d) => {
+                items[i] = m;
+                last = d;
+            }
+        }
+        i += 1;
+    }
+    Run::Went(last)
+}
