@@ -1,0 +1,93 @@
+-- How many nodes of the source have a copy: as many as the target has nodes, and each node that is added to it is the copy of one more.
+use Prim.Native.Nat.{ℕ, zero, suc, _<_}
+use mathlib.Core.Path.{_≡_, refl, sym, ap, _∙_, subst}
+use mathlib.Core.Bool.{Bool, true, false, _||_}
+use mathlib.Core.List.{[], _∷_}
+use native.Mathlib.Omega.{arith}
+use native.Mathlib.Decide.{ℕ-discrete, decLt}
+use lib.ListN.{length}
+use lib.Dec.{eqb}
+use borrow.Author.Tests.{eqb-true, eq-eqb, ne-eqb}
+use Rattle.types.specs.Node.{Node}
+use Rattle.types.specs.Arena.{Arena, sound, here, more}
+use Rattle.types.proofs.Tests.{true-false}
+use Rattle.bits.specs.Bits.{count-below}
+use Rattle.bits.proofs.Sets.{count-same}
+use Rattle.walks.proofs.Counting.{or-left}
+use Rattle.walks.proofs.Reaching.{or-right}
+use Rattle.copying.proofs.Copies.{CopyOf, copy-inside, copy-later, copy-older, copy-one, copy-injective}
+
+-- ---- counts
+count-none : (n : ℕ) → count-below (λ c. false) n ≡ 0
+unfolding count-below
+count-none zero = refl
+count-none (suc n) = count-none n
+
+-- one number more passes
+count-more : (f g : ℕ → Bool) (n m : ℕ) → n < m → f n ≡ false → g n ≡ true → ((c : ℕ) → (c ≡ n → ⊥) → g c ≡ f c) → count-below g m ≡ suc (count-below f m)
+unfolding count-below
+count-more f g n zero l p q h = absurd (omega arith)
+count-more f g n (suc m) l p q h = go (ℕ-discrete m n) (λ k. count-more f g n m k p q h)
+  where
+    go : Dec (m ≡ n) → (n < m → count-below g m ≡ suc (count-below f m)) → count-below g (suc m) ≡ suc (count-below f (suc m))
+    go (yes e) r = ap (λ (b : Bool). elim b as (λ _. ℕ) [ true ↦ suc (count-below g m) | false ↦ count-below g m ]) (ap g e ∙ q)
+        ∙ ap suc (count-same g f m (λ c k. h c (λ z. omega (arith, z, e, k))))
+        ∙ sym (ap (λ (b : Bool). suc (elim b as (λ _. ℕ) [ true ↦ suc (count-below f m) | false ↦ count-below f m ])) (ap f e ∙ p))
+    go (no e) r = each (g m) (f m) (h m e) (r (omega (arith, e, l)))
+      where
+        each : (x y : Bool) → x ≡ y → count-below g m ≡ suc (count-below f m) → elim x as (λ _. ℕ) [ true ↦ suc (count-below g m) | false ↦ count-below g m ] ≡ suc (elim y as (λ _. ℕ) [ true ↦ suc (count-below f m) | false ↦ count-below f m ])
+        each true true z k = ap suc k
+        each false false z k = k
+        each true false z k = absurd (true-false z)
+        each false true z k = absurd (true-false (sym z))
+
+-- ---- the nodes that have a copy
+pub record Copied (u a : Arena) (c : ℕ) : Type 0 where
+  pub number : ℕ
+  pub copy : CopyOf u a c number
+
+pub record Counted (u a : Arena) : Type 0 where
+  pub set : ℕ → Bool
+  pub count : count-below set (length u) ≡ length a
+  pub there : (c : ℕ) → set c ≡ true → Copied u a c
+  pub only : (c k : ℕ) → CopyOf u a c k → set c ≡ true
+
+pub counted-none : {u : Arena} → Counted u []
+counted-none {u} = record { set = λ c. false; count = count-none (length u); there = λ c e. absurd (true-false (sym e)); only = λ c k C. absurd (let l = copy-inside C in omega arith) }
+
+-- the node that is added is the copy of node n
+pub counted-more : (table : ℕ) {u d : Arena} {x : Node} {n : ℕ} → sound table u ≡ true → sound table (x ∷ d) ≡ true → n < length u → CopyOf u (x ∷ d) n (length d) → Counted u d → Counted u (x ∷ d)
+counted-more table {u} {d} {x} {n} g h l new K = record { set = set; count = count-more (K .set) set n (length u) l fresh (or-right (K .set n) (eqb n n) (eq-eqb n n refl)) old ∙ ap suc (K .count); there = there; only = λ c k C. only c k C (decLt k (length d)) }
+  where
+    set : ℕ → Bool
+    set c = K .set c || eqb c n
+
+    fresh : K .set n ≡ false
+    fresh = go (K .set n) refl
+      where
+        go : (b : Bool) → K .set n ≡ b → b ≡ false
+        go false e = refl
+        go true e =
+            let C = K .there n e in
+            let z = copy-one table h (copy-later (more x here) (C .copy)) new in
+            absurd (let i = copy-inside (C .copy) in omega (arith, i, z))
+
+    old : (c : ℕ) → (c ≡ n → ⊥) → set c ≡ K .set c
+    old c e = ap (λ (b : Bool). K .set c || b) (ne-eqb c n e) ∙ none (K .set c)
+      where
+        none : (b : Bool) → (b || false) ≡ b
+        none true = refl
+        none false = refl
+
+    there : (c : ℕ) → set c ≡ true → Copied u (x ∷ d) c
+    there c e = go (K .set c) refl e
+      where
+        go : (b : Bool) → K .set c ≡ b → (b || eqb c n) ≡ true → Copied u (x ∷ d) c
+        go true p q = let C = K .there c p in record { number = C .number; copy = copy-later (more x here) (C .copy) }
+        go false p q = record { number = length d; copy = subst (λ (i : ℕ). CopyOf u (x ∷ d) i (length d)) (sym (eqb-true c n q)) new }
+
+    only : (c k : ℕ) → CopyOf u (x ∷ d) c k → Dec (k < length d) → set c ≡ true
+    only c k C (yes p) = or-left (K .set c) (eqb c n) (K .only c k (copy-older table h (more x here) C p))
+    only c k C (no p) =
+        let z : k ≡ length d = let i = copy-inside C in omega (arith, i, p) in
+        or-right (K .set c) (eqb c n) (eq-eqb c n (copy-injective table g (subst (CopyOf u (x ∷ d) c) z C) new))

@@ -1,0 +1,111 @@
+-- The words made are those of the source's node with the given children, which may be added to the target.
+use Prim.Native.Nat.{ℕ, _+_, _<_, _≤_}
+use mathlib.Core.Path.{_≡_, refl, sym, ap, _∙_, subst}
+use mathlib.Core.Bool.{true}
+use mathlib.Core.List.{List}
+use native.Mathlib.Omega.{arith}
+use lib.ListN.{length, take, replicate, length-replicate}
+use lib.Seq.{length-take-le}
+use mir.Syntax.{w64}
+use mir.Val.{Fits}
+use Rattle.types.specs.Node.{Node, node, tag, children, encode, below, formed, well, IsNode}
+use Rattle.types.specs.Arena.{Arena, at}
+use Rattle.types.specs.Fault.{children-in}
+use Rattle.types.specs.Memory.{Holds}
+use Rattle.types.specs.declared.Counters.{Counters}
+use Rattle.types.proofs.Lists.{below-more}
+use Rattle.types.proofs.Nodes.{nil, formed-parts}
+use Rattle.types.proofs.Sound.{at-well, at-formed}
+use Rattle.types.proofs.Addresses.{start-room}
+use Rattle.arena.specs.Stored.{InRange, NodeAt}
+use Rattle.arena.specs.Added.{Fresh, Interns}
+use Rattle.arena.specs.declared.added.Interned.{Interned}
+use Rattle.recursion.proofs.Interning.{node-is, well-again}
+use Rattle.rebuilding.specs.Rebuilt.{AsMany, Exchanging, Exchanged}
+use Rattle.rebuilding.proofs.Copying.{children-read, few-read}
+use Rattle.rebuilding.proofs.Exchanging.{length-given, exchanged-encode}
+use Rattle.copying.specs.Copied.{CopyReady, Copies}
+
+module _ {w s : List ℕ} {c : Counters} {n : ℕ} {items : List ℕ} {count : ℕ} {tw ts : List ℕ} {d : Counters} (R : CopyReady w s c n items count tw ts d) where
+  copy-range : InRange w s c n
+  copy-range = record { lent = record { table = R .table; view = R .source; holds = R .from }; inside = R .inside }
+
+  pub copy-here : {i : ℕ} → i ≡ n → InRange w s c i
+  copy-here e = subst (InRange w s c) (sym e) copy-range
+
+  few-nodes : d .nodes ≤ 4096
+  few-nodes = let H = R .to in omega (arith, start-room H, H .few-starts)
+
+  module _ {i : ℕ} (e : i ≡ n) {ws : List ℕ} (M : NodeAt w s c i ws) where
+    N : NodeAt w s c n ws
+    N = rw e at M
+
+    -- in any source that memory holds
+    module _ {table : ℕ} {u : Arena} (H : Holds table w s c u) where
+      inside-u : n < length u
+      inside-u = omega (arith, R .inside, H .nodes)
+
+      read : children-in ws ≡ children (at u n)
+      read = children-read copy-range N H
+
+    pub copy-many : AsMany ws items count
+    copy-many = record {
+      long = R .long;
+      few = omega (arith, R .count-is, few-read copy-range N, ap length (read (R .from)));
+      count-is = omega (arith, R .count-is, ap length (read (R .from)));
+    }
+
+    pub copy-fits : Fits w64 (count + 1)
+    copy-fits = omega (arith, copy-many .few)
+
+    -- what has the words of the source's node with these children may be added
+    module _ {table : ℕ} {u a : Arena} (H : Holds table w s c u) (K : Holds table tw ts d a) where
+      may-add : {ws′ : List ℕ} → ws′ ≡ encode (node (tag (at u n)) (take count items)) → IsNode table (length a) ws′ (node (tag (at u n)) (take count items))
+      may-add {ws′} q = go (at u n) q (at-well table u (H .good) n (inside-u H)) (copy-many .count-is ∙ ap length (read H))
+        where
+          low : below (length a) (take count items) ≡ true
+          low = subst (λ (k : ℕ). below k (take count items) ≡ true) (K .nodes) (R .low)
+
+          go : (x : Node) → ws′ ≡ encode (node (tag x) (take count items)) → well table n x ≡ true → count ≡ length (children x) → IsNode table (length a) ws′ (node (tag x) (take count items))
+          go (node t cs) q g k = record { words = q; good = well-again table (length a) (omega (arith, few-nodes, K .nodes)) n t cs (take count items) g (length-given copy-many ∙ k) low }
+
+    -- ---- a node without children has its own words
+    module _ (z : count ≡ 0) where
+      leaf-words : {table : ℕ} {u : Arena} → Holds table w s c u → ws ≡ encode (node (tag (at u n)) (take count items))
+      leaf-words {table} {u} H =
+          let p = nil (children (at u n)) (omega (arith, z, copy-many .count-is, ap length (read H))) in
+          let q = nil (take count items) (omega (arith, z, length-given copy-many)) in
+          N .is table u H ∙ ap encode (node-is (at u n) refl ∙ ap (node (tag (at u n))) (p ∙ sym q))
+
+      pub leaf-fresh : Fresh tw ts d ws
+      leaf-fresh = record { table = R .table; view = R .target; holds = R .to; node = node (tag (at (R .source) n)) (take count items); is = may-add (R .from) (R .to) (leaf-words (R .from)) }
+
+      pub leaf-copied : {tw′ ts′ : List ℕ} {o : Interned} → Interns tw ts d ws tw′ ts′ o → Copies w s c n items count tw ts d tw′ ts′ o
+      leaf-copied I = record { is = λ table u a H K. I .is table a (node (tag (at u n)) (take count items)) K (may-add H K (leaf-words H)) }
+
+    -- ---- of another the children are exchanged
+    module _ (f : count ≡ 0 → ⊥) where
+      some : 0 < count
+      some = omega (arith, f)
+
+      pub copy-exchanging : Exchanging ws items count (replicate 66 0)
+      copy-exchanging = record { as-many = copy-many; some = some; low = below-more (d .nodes) 4096 (take count items) few-nodes (R .low); size = length-replicate {A = ℕ} 66 0 }
+
+      module _ {new : List ℕ} (X : Exchanged ws items count new) where
+        pub copy-prefix : count + 1 ≤ length new
+        copy-prefix = omega (arith, X .size, copy-many .few)
+
+        pub copy-length : count + 1 ≡ length (take (count + 1) new)
+        copy-length = sym (length-take-le (count + 1) new copy-prefix)
+
+        new-words : {table : ℕ} {u : Arena} → Holds table w s c u → take (count + 1) new ≡ encode (node (tag (at u n)) (take count items))
+        new-words {table} {u} H = go (at u n) (N .is table u H) (at-formed table u (H .good) n (inside-u H)) (copy-many .count-is ∙ ap length (read H))
+          where
+            go : (x : Node) → ws ≡ encode x → formed x ≡ true → count ≡ length (children x) → take (count + 1) new ≡ encode (node (tag x) (take count items))
+            go (node t cs) v g k = exchanged-encode t cs (formed-parts t cs g) k some (copy-many .few) (length-given copy-many) (subst (λ (l : List ℕ). Exchanged l items count new) v X)
+
+        pub copy-fresh : Fresh tw ts d (take (count + 1) new)
+        copy-fresh = record { table = R .table; view = R .target; holds = R .to; node = node (tag (at (R .source) n)) (take count items); is = may-add (R .from) (R .to) (new-words (R .from)) }
+
+        pub copied : {tw′ ts′ : List ℕ} {o : Interned} → Interns tw ts d (take (count + 1) new) tw′ ts′ o → Copies w s c n items count tw ts d tw′ ts′ o
+        copied I = record { is = λ table u a H K. I .is table a (node (tag (at u n)) (take count items)) K (may-add H K (new-words H)) }
