@@ -1,0 +1,10 @@
+pub mod OnePartner
+pub mod Labels
+pub mod Fields
+pub mod SameNodes
+pub mod Pairing
+pub mod Descending
+pub mod Visits
+pub mod Sweeps
+pub mod Replying
+pub mod Evaluated

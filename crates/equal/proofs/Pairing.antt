@@ -1,0 +1,139 @@
+-- One pair, and the pairs of two nodes' children one by one: what was there stays, and what is new is asked for.
+use Prim.Native.Nat.{ℕ, _+_, _-_, _<_, _≤_}
+use mathlib.Core.Path.{_≡_, refl, sym, ap, _∙_, subst}
+use mathlib.Core.Bool.{Bool, true, false, not}
+use mathlib.Core.List.{List}
+use mathlib.Core.Logic.{_⊎_, inl, inr}
+use native.Mathlib.Decide.{ℕ-discrete}
+use native.Mathlib.Omega.{arith}
+use lib.ListN.{length, getD, set, length-set}
+use lib.Seq.{getD-set-same, getD-set-other}
+use lib.Dec.{eqb}
+use borrow.Author.Tests.{eqb-true, eqb-false, not-true, not-false}
+use Rattle.types.specs.Fault.{children-in}
+use Rattle.types.proofs.Tests.{true-false}
+use Rattle.walks.proofs.Offspring.{child-small}
+use Rattle.equal.specs.Pairs.{Pair, Fit, Gives, Beside, Level, GivesAll}
+
+-- ---- one pair
+module _ {ps : List ℕ} {k p : ℕ} (F : Fit ps k p) where
+  new-at : (z : getD ps k 0 ≡ 0) → Gives ps k p (set ps k (p + 1)) true
+  new-at z = record { long = length-set ps k (p + 1); kept = kept; only = only; given = λ e. new; other = λ e. absurd (true-false e) }
+    where
+      new : getD (set ps k (p + 1)) k 0 ≡ p + 1
+      new = getD-set-same ps k (p + 1) 0 (omega (arith, F .long, F .left))
+
+      kept : (j q : ℕ) → Pair ps j q → Pair (set ps k (p + 1)) j q
+      kept j q e = go (ℕ-discrete j k)
+        where
+          go : Dec (j ≡ k) → Pair (set ps k (p + 1)) j q
+          go (yes f) = let g = ap (λ (i : ℕ). getD ps i 0) f in absurd (omega (arith, e, z, g))
+          go (no f) = getD-set-other ps k j (p + 1) 0 f ∙ e
+
+      only : (j q : ℕ) → Pair (set ps k (p + 1)) j q → Pair ps j q ⊎ ((j ≡ k) × (q ≡ p))
+      only j q e = go (ℕ-discrete j k)
+        where
+          go : Dec (j ≡ k) → Pair ps j q ⊎ ((j ≡ k) × (q ≡ p))
+          go (yes f) = let g = ap (λ (i : ℕ). getD (set ps k (p + 1)) i 0) f in inr (f, omega (arith, e, new, g))
+          go (no f) = inl (sym (getD-set-other ps k j (p + 1) 0 f) ∙ e)
+
+  pub pair-new : {i : ℕ} → i ≡ k → getD ps i 0 ≡ 0 → Gives ps k p (set ps i (p + 1)) true
+  pair-new {i} e z = subst (λ (j : ℕ). Gives ps k p (set ps j (p + 1)) true) (sym e) (new-at (ap (λ (j : ℕ). getD ps j 0) (sym e) ∙ z))
+
+  pub pair-told : {i : ℕ} → i ≡ k → (getD ps i 0 ≡ 0 → ⊥) → Gives ps k p ps (eqb (getD ps i 0) (p + 1))
+  pair-told {i} e f =
+      let at : getD ps i 0 ≡ getD ps k 0 = ap (λ (j : ℕ). getD ps j 0) e in
+      record {
+        long = refl;
+        kept = λ j q h. h;
+        only = λ j q h. inl h;
+        given = λ h. sym at ∙ eqb-true (getD ps i 0) (p + 1) h;
+        other = λ h.
+            let g : getD ps i 0 ≡ p + 1 → ⊥ = eqb-false (getD ps i 0) (p + 1) h in
+            record { partner = getD ps i 0 - 1; there = omega (arith, at, f); differs = λ q. g (omega (arith, f, q)) };
+      }
+
+-- ---- the pairs of children
+pub record Giving (v w ps qs : List ℕ) (count i : ℕ) : Type 0 where
+  pub counted : count ≡ length (children-in v)
+  pub level : length (children-in v) ≡ length (children-in w)
+  pub room : length ps ≡ 4096
+  pub long : length qs ≡ length ps
+  pub turn : i ≤ count
+  pub kept : (j q : ℕ) → Pair ps j q → Pair qs j q
+  pub only : (j q : ℕ) → Pair qs j q → Pair ps j q ⊎ Beside (children-in v) (children-in w) j q
+  pub given : (x : ℕ) → x < i → Pair qs (getD (children-in v) x 0) (getD (children-in w) x 0)
+
+module _ {v w ps : List ℕ} {count : ℕ} where
+  pub giving-start : Level v w ps → count ≡ length (children-in v) → Giving v w ps ps count 0
+  giving-start L e = record {
+    counted = e;
+    level = L .count;
+    room = L .long;
+    long = refl;
+    turn = omega arith;
+    kept = λ j q h. h;
+    only = λ j q h. inl h;
+    given = λ x l. absurd (omega arith);
+  }
+
+  module _ {qs : List ℕ} {i : ℕ} (G : Giving v w ps qs count i) where
+    pub giving-left : i < count → i < length (children-in v)
+    giving-left l = omega (arith, G .counted)
+
+    pub giving-right : i < count → i < length (children-in w)
+    giving-right l = omega (arith, G .counted, G .level)
+
+    module _ (l : i < count) {m n : ℕ} (e : m ≡ getD (children-in v) i 0) (f : n ≡ getD (children-in w) i 0) where
+      pub giving-fit : Fit qs m n
+      giving-fit = record {
+        long = G .long ∙ G .room;
+        left = omega (arith, e, child-small v i (giving-left l));
+        right = omega (arith, f, child-small w i (giving-right l));
+      }
+
+      here : Beside (children-in v) (children-in w) m n
+      here = record { index = i; inside = giving-left l; left = e; right = f }
+
+      module _ {rs : List ℕ} {b : Bool} (H : Gives qs m n rs b) where
+        kept-on : (j q : ℕ) → Pair ps j q → Pair rs j q
+        kept-on j q h = H .kept j q (G .kept j q h)
+
+        only-then : (j q : ℕ) → Pair rs j q → Pair ps j q ⊎ Beside (children-in v) (children-in w) j q
+        only-then j q h = go (H .only j q h)
+          where
+            go : Pair qs j q ⊎ ((j ≡ m) × (q ≡ n)) → Pair ps j q ⊎ Beside (children-in v) (children-in w) j q
+            go (inl y) = G .only j q y
+            go (inr y) = inr (record { index = i; inside = giving-left l; left = y .0 ∙ e; right = y .1 ∙ f })
+
+        pub giving-clash : not b ≡ true → GivesAll (children-in v) (children-in w) ps rs false
+        giving-clash g = record {
+          long = H .long ∙ G .long;
+          kept = kept-on;
+          only = only-then;
+          given = λ h. absurd (true-false (sym h));
+          clash = λ h. record { node = m; beside = n; pair = here; other = H .other (not-true b g) };
+        }
+
+        pub giving-more : not b ≡ false → Giving v w ps rs count (i + 1)
+        giving-more g = record { counted = G .counted; level = G .level; room = G .room; long = H .long ∙ G .long; turn = omega arith; kept = kept-on; only = only-then; given = given }
+          where
+            given : (x : ℕ) → x < i + 1 → Pair rs (getD (children-in v) x 0) (getD (children-in w) x 0)
+            given x k = go (ℕ-discrete x i)
+              where
+                now-given : Pair rs (getD (children-in v) i 0) (getD (children-in w) i 0)
+                now-given = ap (λ (y : ℕ). getD rs y 0) (sym e) ∙ H .given (not-false b g) ∙ ap (λ (y : ℕ). y + 1) f
+
+                go : Dec (x ≡ i) → Pair rs (getD (children-in v) x 0) (getD (children-in w) x 0)
+                go (yes r) = subst (λ (y : ℕ). Pair rs (getD (children-in v) y 0) (getD (children-in w) y 0)) (sym r) now-given
+                go (no r) = H .kept _ _ (G .given x (omega arith))
+
+    pub giving-done : count ≤ i → GivesAll (children-in v) (children-in w) ps qs true
+    giving-done h = record {
+      long = G .long;
+      kept = G .kept;
+      only = G .only;
+      given = λ e j q B.
+          ap (λ (y : ℕ). getD qs y 0) (B .left) ∙ G .given (B .index) (omega (arith, B .inside, G .counted)) ∙ ap (λ (y : ℕ). y + 1) (sym (B .right));
+      clash = λ e. absurd (true-false e);
+    }
