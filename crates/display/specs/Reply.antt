@@ -1,0 +1,55 @@
+-- What `display` answers and leaves (01, "Who can cause which number").
+use Prim.Native.Nat.{ℕ, min}
+use mathlib.Core.Path.{_≡_}
+use mathlib.Core.Bool.{true, false}
+use mathlib.Core.List.{List, _++_}
+use lib.ListN.{length, drop, replicate}
+use lib.Dec.{leb}
+use Rattle.types.specs.Out.{Out, ok, refuse}
+use Rattle.types.specs.Arena.{Arena}
+use Rattle.types.specs.Memory.{Holds}
+use Rattle.types.specs.declared.Counters.{Counters}
+use Rattle.names.specs.Table.{split}
+use Rattle.walks.specs.Asked.{asking, ask-reply}
+use Rattle.text_writing.specs.Text.{type-text}
+use Rattle.display.specs.declared.Displayed.{Displayed}
+use Rattle.display.specs.declared.Displayed.the-variants as displayed
+
+-- the length of the text or the number of a refusal, and all lent bytes
+pub data Reply : Type 0 where
+  reply : Out ℕ → List ℕ → Reply
+
+-- the text x in the lent bytes b, those past it as they were; 9 and zeros throughout where x exceeds them, or 65,536
+unfoldable pub displaying : List ℕ → List ℕ → Reply
+displaying b x = elim (leb (length x) (min (length b) 65536)) [
+  | true ↦ reply (ok (length x)) (x ++ drop (length x) b)
+  | false ↦ reply (refuse 9) (replicate (length b) 0)
+]
+
+-- 9 comes last: earlier numbers leave the bytes as lent
+unfoldable pub reply-of : List ℕ → Out (List ℕ) → Reply
+unfolding displaying
+reply-of b (ok x) = displaying b x
+reply-of b (refuse e) = reply (refuse e) b
+
+-- 1, 2 and 6, then the text of the type of the root, with the names of the table t
+unfoldable pub display-reply : List ℕ → List ℕ → List ℕ → Counters → ℕ → List ℕ → Reply
+unfolding reply-of ask-reply split type-text
+display-reply t w s c root b = reply-of b (ask-reply (type-text (split t)) t w s c root)
+
+-- the enum's cases: the length of the text; the number of a refusal
+abbrev pub displayed-out : Displayed → Out ℕ
+displayed-out (displayed.Text n) = ok n
+displayed-out (displayed.Refused e) = refuse e
+
+-- an answer with the bytes as left
+abbrev pub left : Displayed → List ℕ → Reply
+left r b = reply (displayed-out r) b
+
+-- what is answered and left is the text of the root's type, in any arena that memory holds
+pub record Displays (t w s : List ℕ) (c : Counters) (root : ℕ) (b b′ : List ℕ) (r : Displayed) : Type 0 where
+  pub is : (table : ℕ) (a : Arena) → Holds table w s c a → left r b′ ≡ displaying b (type-text (split t) a root)
+
+-- the same after 6
+pub record DisplaysRoot (t w s : List ℕ) (c : Counters) (root : ℕ) (b b′ : List ℕ) (r : Displayed) : Type 0 where
+  pub is : (table : ℕ) (a : Arena) → Holds table w s c a → left r b′ ≡ reply-of b (asking (type-text (split t)) root a)

@@ -1,0 +1,137 @@
+// The text of a type in lent bytes. `display` is the call open to a host; `display_in` is for callers that know the arena
+// sound and its root there. specs/Reply.antt says what they answer and leave.
+use arena::sound::Judged;
+use arena::sound::judge;
+use arena::stored::node_at;
+use text_writing::children::child_of;
+use text_writing::children::close_child;
+use text_writing::children::open_child;
+use text_writing::pieces::shown_count;
+use text_writing::pieces::write_beginning;
+use text_writing::pieces::write_ending;
+use types::Counters;
+use types::arc_ty::wide;
+ghost use mathlib.Core.Path.{_≡_};
+ghost use Prim.Native.Nat.{min};
+ghost use lib.ListN.{length, replicate};
+ghost use Rattle.arena.specs.Stored.{Lent, InRange};
+ghost use Rattle.display.specs.Prints.{Prints};
+ghost use Rattle.display.specs.Reply.{display-reply, left, Displays, DisplaysRoot};
+
+// The length of the text, or the number of a refusal.
+pub enum Displayed {
+    Text(usize),
+    Refused(u32),
+}
+
+// The most bytes that a text may have.
+const LIMIT: usize = 65536;
+
+// The most that it may have in so many lent bytes.
+fn limit_of(lent: usize) -> usize
+    ensures { λ r. ⌜ r ≡ min lent 65536 ⌝ }
+{
+    if lent < LIMIT {
+        return lent;
+    }
+    LIMIT
+}
+
+// Writes the text of node n behind the first `count` bytes. A text can have exponentially many bytes: once it doesn't fit,
+// no child is visited any more.
+fn write_ty(
+    table: &[u8],
+    words: &[u32],
+    starts: &[u32],
+    c: Counters,
+    n: u32,
+    text: &mut [u8],
+    count: usize,
+) -> usize
+    requires { ⌜ InRange (now words) (now starts) c n ⌝ }
+    ensures { λ r. ⌜ Prints (now (table .entry)) (now (words .entry)) (now (starts .entry)) c n (now (text .entry)) count (now (text .exit)) r ⌝ }
+{
+    if count > text.len() {
+        return count;
+    }
+    let node = node_at(words, starts, c, wide(n));
+    let children = shown_count(node);
+    let mut end = write_beginning(table, node, text, count);
+    let mut i = 0;
+    while i < children {
+        end = open_child(table, words, starts, c, n, i, text, end);
+        let child = child_of(words, starts, c, n, i);
+        end = write_ty(table, words, starts, c, child, text, end);
+        end = close_child(words, starts, c, n, i, text, end);
+        i += 1;
+    }
+    write_ending(node, text, end)
+}
+
+// Zeros throughout.
+fn clear(text: &mut [u8])
+    ensures { λ _. ⌜ now (text .exit) ≡ replicate (length (now (text .entry))) 0 ⌝ }
+{
+    let mut i = 0;
+    while i < text.len() {
+        text[i] = 0;
+        i += 1;
+    }
+}
+
+// The text of the root's type, in an arena that is known to be sound. A text that fits is no longer than the limit.
+pub fn display_in(
+    table: &[u8],
+    words: &[u32],
+    starts: &[u32],
+    c: Counters,
+    root: u32,
+    text: &mut [u8],
+) -> Displayed
+    requires { ⌜ InRange (now words) (now starts) c root ⌝ }
+    ensures { λ r. ⌜ Displays (now (table .entry)) (now (words .entry)) (now (starts .entry)) c root (now (text .entry)) (now (text .exit)) r ⌝ }
+{
+    let limit = limit_of(text.len());
+    let end = write_ty(table, words, starts, c, root, &mut text[..limit], 0);
+    if end > limit {
+        clear(text);
+        return Displayed::Refused(9);
+    }
+    Displayed::Text(end)
+}
+
+// The same after 1 and 2.
+fn display_root(
+    table: &[u8],
+    words: &[u32],
+    starts: &[u32],
+    c: Counters,
+    root: u32,
+    text: &mut [u8],
+) -> Displayed
+    requires { ⌜ Lent (now words) (now starts) c ⌝ }
+    ensures { λ r. ⌜ DisplaysRoot (now (table .entry)) (now (words .entry)) (now (starts .entry)) c root (now (text .entry)) (now (text .exit)) r ⌝ }
+{
+    if wide(root) >= c.nodes {
+        return Displayed::Refused(6);
+    }
+    display_in(table, words, starts, c, root, text)
+}
+
+// The text of the root's type.
+pub fn display(
+    table: &[u8],
+    words: &[u32],
+    starts: &[u32],
+    c: Counters,
+    root: u32,
+    text: &mut [u8],
+) -> Displayed
+    ensures { λ r. ⌜ left r (now (text .exit)) ≡ display-reply (now (table .entry)) (now (words .entry)) (now (starts .entry)) c root (now (text .entry)) ⌝ }
+{
+    let lent = judge(table, words, starts, c);
+    match lent {
+        Judged::Names(count) => display_root(table, words, starts, c, root, text),
+        Judged::Refused(number) => Displayed::Refused(number),
+    }
+}

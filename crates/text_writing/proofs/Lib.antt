@@ -1,0 +1,4 @@
+pub mod Appending
+pub mod Tags
+pub mod NodePieces
+pub mod Childhood

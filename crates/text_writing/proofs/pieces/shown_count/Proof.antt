@@ -1,0 +1,20 @@
+-- Of a named type none.
+use Rattle.text_writing.proofs.NodePieces.{shown-none, shown-all}
+use borrow.Author.Needs.{needs}
+use Rattle.text_writing.proofs.pieces.shown_count.Statement.{statement}
+use Rattle.text_writing.proofs.pieces.shown_count.Tie as tie
+
+kind-in-requires : tie.Need-kind-in-requires
+kind-in-requires c κs = search needs
+
+returns : tie.Need-returns
+returns c = search shown-none
+
+child-count-requires : tie.Need-child-count-requires
+child-count-requires c κs = search needs
+
+returns-2 : tie.Need-returns-2
+returns-2 c = search shown-all
+
+pub shown-count-spec : {M : Type 1} → statement M
+shown-count-spec = tie.close (tie.spec kind-in-requires returns child-count-requires returns-2)
