@@ -1,0 +1,57 @@
+-- The line of a sheet (01, "A sheet and its line").
+use Prim.Native.Nat.{ℕ}
+use mathlib.Core.Bool.{true, false}
+use mathlib.Core.List.{List, [], _∷_, _++_}
+use lib.ListN.{length}
+use lib.Dec.{leb}
+use Rattle.types.specs.Out.{Out, ok, refuse, _>>=_}
+use Rattle.types.specs.Bytes.{bytes}
+use Rattle.types.specs.Decimal.{decimal}
+use Rattle.simplification.specs.Passes.{Result, simplify}
+use Rattle.text_writing.specs.Text.{type-text}
+use Rattle.sheet_reading.specs.Sheet.{Sheet, read-sheet}
+
+-- what the type of a sheet's root becomes: the root after `simplify`, the passes made, the text
+pub record Outcome : Type 0 where
+  pub root : ℕ
+  pub passes : ℕ
+  pub text : List ℕ
+
+-- 65,536 bytes of text are lent; 9 where it is longer
+unfoldable pub limited : List ℕ → Out (List ℕ)
+limited x = elim (leb (length x) 65536) [ true ↦ ok x | false ↦ refuse 9 ]
+
+-- what a finished run of `simplify` gives, printed in the arena after, under the sheet's names
+unfoldable pub printed : Sheet → Result → Out Outcome
+unfolding limited type-text _>>=_
+printed sh q = limited (type-text (sh .names) (q .arena) (q .root)) >>= λ (x : List ℕ). ok (record { root = q .root; passes = length (q .taken); text = x })
+
+-- the type of the sheet's root, simplified in an arena of full size; 7 and 8 come from there
+unfoldable pub sheet-type : Sheet → Out Outcome
+unfolding simplify printed _>>=_
+sheet-type sh = simplify 16384 4096 (sh .root) (sh .arena) >>= printed sh
+
+-- the same from the bytes of the sheet, or the first fault met
+unfoldable pub sheet-answer : List ℕ → Out Outcome
+unfolding read-sheet sheet-type _>>=_
+sheet-answer input = read-sheet input >>= sheet-type
+
+-- root, passes and text, split by spaces; the line ends with byte 10
+unfoldable pub type-line : ℕ → ℕ → List ℕ → List ℕ
+unfolding decimal
+type-line root passes text = decimal root ++ bytes " " ++ decimal passes ++ bytes " " ++ text ++ (10 ∷ [])
+
+-- `refused` and the number
+unfoldable pub refused-line : ℕ → List ℕ
+unfolding decimal
+refused-line e = bytes "refused " ++ decimal e ++ (10 ∷ [])
+
+unfoldable pub line-of : Out Outcome → List ℕ
+unfolding type-line refused-line
+line-of (ok v) = type-line (v .root) (v .passes) (v .text)
+line-of (refuse e) = refused-line e
+
+-- the line of the sheet with these bytes
+unfoldable pub sheet-line : List ℕ → List ℕ
+unfolding line-of sheet-answer
+sheet-line input = line-of (sheet-answer input)

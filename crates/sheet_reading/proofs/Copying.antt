@@ -1,0 +1,55 @@
+-- Words copied from their bytes, one after another.
+use Prim.Native.Nat.{ℕ, zero, suc, _+_, _*_, _/_, _<_, _≤_}
+use mathlib.Core.Path.{_≡_, refl, sym, ap, _∙_}
+use mathlib.Core.List.{List, [], _∷_, _++_}
+use native.Mathlib.Omega.{arith}
+use native.Mathlib.Numerals.{add-one}
+use lib.ListN.{length, take, drop, set, length-set}
+use lib.Seq.{drop-drop, take-suc-set}
+use Rattle.sheet_reading.specs.Sheet.{value, words}
+use Rattle.sheet_reading.specs.Steps.{Inside, WordAt, Stretch, Copied}
+
+-- one word more, at the other end
+words-more : (i : ℕ) (l : List ℕ) → words (suc i) l ≡ words i l ++ (value (take 4 (drop (4 * i) l)) ∷ [])
+unfolding words
+words-more zero l = refl
+words-more (suc i) l =
+    let e : 4 + 4 * i ≡ 4 * suc i = omega arith in
+    ap (λ (t : List ℕ). value (take 4 l) ∷ t)
+    (words-more i (drop 4 l) ∙ ap (λ (u : List ℕ). words i (drop 4 l) ++ (value (take 4 u) ∷ [])) (drop-drop (4 * i) 4 l ∙ ap (λ (j : ℕ). drop j l) e))
+
+-- i words are copied
+pub record Copies (bytes : List ℕ) (count : ℕ) (node : List ℕ) (i : ℕ) : Type 0 where
+  pub few : length bytes ≤ 264
+  pub size : length node ≡ 66
+  pub many : count ≡ length bytes / 4
+  pub turn : i ≤ count
+  pub is : take i node ≡ words i bytes
+
+pub copy-start : {bytes node : List ℕ} → Stretch bytes node → Copies bytes (length bytes / 4) node 0
+unfolding words
+copy-start S = record { few = S .few; size = S .size; many = refl; turn = omega arith; is = refl }
+
+module _ {bytes : List ℕ} {count : ℕ} {node : List ℕ} {i : ℕ} (C : Copies bytes count node i) where
+  module _ (h : i < count) where
+    pub copy-inside : Inside bytes (4 * i) 4
+    copy-inside = record { fits = omega (arith, h, C .many) }
+
+    pub copy-item : i < 66
+    copy-item = omega (arith, h, C .many, C .few)
+
+    pub copy-more : {v : ℕ} → WordAt bytes (4 * i) v → Copies bytes count (set node i v) (i + 1)
+    copy-more {v} W = record {
+      few = C .few;
+      size = length-set node i v ∙ C .size;
+      many = C .many;
+      turn = omega (arith, h);
+      is = rw add-one
+          (take-suc-set node i v (omega (arith, copy-item, C .size))
+          ∙ ap (λ (t : List ℕ). t ++ (v ∷ [])) (C .is)
+          ∙ ap (λ (x : ℕ). words i bytes ++ (x ∷ [])) (W .is)
+          ∙ sym (words-more i bytes));
+    }
+
+  pub copy-done : count ≤ i → Copied bytes node count
+  copy-done h = let e : i ≡ count = omega (arith, h, C .turn) in record { count = C .many; size = C .size; is = rw e at (C .is) }

@@ -1,0 +1,11 @@
+pub mod Evaluated
+pub mod Numbers
+pub mod Readers
+pub mod Naming
+pub mod Tabling
+pub mod Copying
+pub mod Measuring
+pub mod Adding
+pub mod Cutting
+pub mod Storing
+pub mod Sheets

@@ -1,0 +1,184 @@
+-- Nodes read into memory, one after another: what is left to read goes on from the arena that memory holds.
+use Prim.Native.Nat.{ℕ, suc, _*_, _-_, _<_, _≤_}
+use mathlib.Core.Path.{_≡_, refl, sym, ap, _∙_, subst}
+use mathlib.Core.List.{List, []}
+use native.Mathlib.Omega.{arith}
+use lib.ListN.{length, take, drop, length-drop}
+use lib.Seq.{length-take-le}
+use Rattle.types.specs.Out.{Out, ok, refuse, _>>=_}
+use Rattle.types.specs.Arena.{Arena}
+use Rattle.types.specs.Memory.{Holds}
+use Rattle.types.specs.declared.Counters.{Counters}
+use Rattle.arena.specs.declared.added.Interned.{Interned}
+use Rattle.arena.specs.declared.added.Interned.the-variants as interned
+use Rattle.names.proofs.Walking.{part}
+use Rattle.sheet_reading.specs.Sheet.{words, node-words, added, node, nodes}
+use Rattle.sheet_reading.specs.Steps.{ReadsWords, Stretch, Copied, Adds, AddsNode, Stores, to, stop, Ready, StoresNode, ReadyEmpty, StoresNodes}
+use Rattle.sheet_reading.specs.Steps as steps
+use Rattle.sheet_reading.specs.declared.bytes.Place.{Place}
+use Rattle.sheet_reading.specs.declared.bytes.Place.the-variants as place
+use Rattle.sheet_reading.specs.declared.nodes.Nodes.{Nodes}
+use Rattle.sheet_reading.specs.declared.nodes.Nodes.the-variants as stored
+use Rattle.sheet_reading.proofs.Readers.{Got, got, refused}
+use Rattle.sheet_reading.proofs.Measuring.{WordsAre, words-are}
+
+-- ---- outcomes taken apart, and made from equations
+record Added (table : ℕ) (w s : List ℕ) (d : Counters) (o : Out Arena) : Type 0 where
+  pub arena : Arena
+  pub is : o ≡ ok arena
+  pub holds : Holds table w s d arena
+
+module _ {table : ℕ} {w s : List ℕ} where
+  adds-done : {o : Out Arena} {i : Interned} {k : ℕ} {d : Counters} → Adds table w s i o → i ≡ interned.Node k d → Added table w s d o
+  adds-done {d = d} (steps.done {d = f} {b = b} H) p = let q : f ≡ d = cc in record { arena = b; is = refl; holds = subst (λ (x : Counters). Holds table w s x b) q H }
+  adds-done steps.stop p = let z : _≡_ {A = ℕ} 0 1 = cc in absurd (omega arith)
+
+  adds-stop : {o : Out Arena} {i : Interned} {e : ℕ} → Adds table w s i o → i ≡ interned.Refused e → o ≡ refuse e
+  adds-stop (steps.done H) p = let z : _≡_ {A = ℕ} 0 1 = cc in absurd (omega arith)
+  adds-stop {e = e} (steps.stop {e = f}) p = let q : f ≡ e = cc in ap refuse q
+
+pub record Stored (bytes : List ℕ) (table : ℕ) (w s : List ℕ) (e : ℕ) (d : Counters) (o : Out (Arena × List ℕ)) : Type 0 where
+  pub arena : Arena
+  pub is : o ≡ ok (arena, drop e bytes)
+  pub high : e ≤ length bytes
+  pub holds : Holds table w s d arena
+
+module _ {bytes : List ℕ} {table : ℕ} {w s : List ℕ} where
+  pub stores-to : {o : Out (Arena × List ℕ)} {r : Nodes} {e : ℕ} {d : Counters} → Stores bytes table w s r o → r ≡ stored.To e d → Stored bytes table w s e d o
+  stores-to {e = e} {d = d} (to {e = f} {d = g} {b = b} h H) p =
+      let i : f ≡ e = cc in
+      let j : g ≡ d = cc in
+      record { arena = b; is = ap (λ (n : ℕ). ok (b, drop n bytes)) i; high = omega (arith, h, i); holds = subst (λ (x : Counters). Holds table w s x b) j H }
+  stores-to stop p = let z : _≡_ {A = ℕ} 0 1 = cc in absurd (omega arith)
+
+  pub stores-stop : {o : Out (Arena × List ℕ)} {r : Nodes} {e : ℕ} → Stores bytes table w s r o → r ≡ stored.Refused e → o ≡ refuse e
+  stores-stop (to h H) p = let z : _≡_ {A = ℕ} 0 1 = cc in absurd (omega arith)
+  stores-stop {e = e} (stop {e = f}) p = let q : f ≡ e = cc in ap refuse q
+
+  stored-to : {o : Out (Arena × List ℕ)} {e : ℕ} {d : Counters} {b : Arena} → o ≡ ok (b, drop e bytes) → e ≤ length bytes → Holds table w s d b → Stores bytes table w s (stored.To e d) o
+  stored-to {e = e} {d = d} p h H = subst (Stores bytes table w s (stored.To e d)) (sym p) (to h H)
+
+  stored-stop : {o : Out (Arena × List ℕ)} {e : ℕ} → o ≡ refuse e → Stores bytes table w s (stored.Refused e) o
+  stored-stop {e = e} p = subst (Stores bytes table w s (stored.Refused e)) (sym p) stop
+
+-- ---- the definition, case by case
+module _ (lw ls table : ℕ) (a : Arena) (bs : List ℕ) where
+  node-stop : {e : ℕ} → node-words bs ≡ refuse e → node lw ls table a bs ≡ refuse e
+  unfolding node
+  node-stop p = ap (λ (o : Out (List ℕ × List ℕ)). o >>= λ (r : List ℕ × List ℕ). added lw ls table (r .0) a >>= λ (b : Arena). ok (b, r .1)) p
+
+  node-next : {ws u : List ℕ} {o : Out Arena} → node-words bs ≡ ok (ws, u) → added lw ls table ws a ≡ o → node lw ls table a bs ≡ (o >>= λ (b : Arena). ok (b, u))
+  unfolding node
+  node-next {u = u} p q =
+      ap (λ (o : Out (List ℕ × List ℕ)). o >>= λ (r : List ℕ × List ℕ). added lw ls table (r .0) a >>= λ (b : Arena). ok (b, r .1)) p
+      ∙ ap (λ (o : Out Arena). o >>= λ (b : Arena). ok (b, u)) q
+
+  module _ (k : ℕ) where
+    nodes-stop : {e : ℕ} → node lw ls table a bs ≡ refuse e → nodes lw ls table (suc k) a bs ≡ refuse e
+    unfolding nodes
+    nodes-stop p = ap (λ (o : Out (Arena × List ℕ)). o >>= λ (r : Arena × List ℕ). nodes lw ls table k (r .0) (r .1)) p
+
+    nodes-next : {b : Arena} {u : List ℕ} → node lw ls table a bs ≡ ok (b, u) → nodes lw ls table (suc k) a bs ≡ nodes lw ls table k b u
+    unfolding nodes
+    nodes-next p = ap (λ (o : Out (Arena × List ℕ)). o >>= λ (r : Arena × List ℕ). nodes lw ls table k (r .0) (r .1)) p
+
+-- ---- one node
+module _ {bytes : List ℕ} {at : ℕ} {r : Place} (R : ReadsWords bytes at r) where
+  pub node-refused : {table : ℕ} {w s : List ℕ} {c : Counters} {e : ℕ} → r ≡ place.Refused e → StoresNode bytes at table w s c w s (stored.Refused e)
+  node-refused {table} {w} {s} p = record { is = λ a H. stored-stop (node-stop (length w) (length s) table a (drop at bytes) (refused (R .is) p)) }
+
+  module _ {e : ℕ} (p : r ≡ place.At e) where
+    G : Got bytes at (node-words (drop at bytes)) e
+    G = got (R .is) p
+
+    A : WordsAre (drop at bytes) (G .says, drop e bytes)
+    A = words-are (drop at bytes) (G .says, drop e bytes) (G .is)
+
+    pub node-low : at ≤ e
+    node-low = G .low
+
+    pub node-high : e ≤ length bytes
+    node-high = G .high
+
+    -- the stretch has four bytes a word
+    size : e - at ≡ 4 * A .count
+    size = omega (arith, A .long, ap length (A .rest), length-drop e bytes, length-drop at bytes, length-drop (4 * A .count) (drop at bytes), G .low, G .high)
+
+    long : length (part bytes at e) ≡ 4 * A .count
+    long = length-take-le (e - at) (drop at bytes) (omega (arith, length-drop at bytes, G .high, G .low)) ∙ size
+
+    pub node-stretch : {new : List ℕ} → length new ≡ 66 → Stretch (part bytes at e) new
+    node-stretch q = record { few = omega (arith, long, A .few); size = q }
+
+    module _ {new : List ℕ} {n : ℕ} (C : Copied (part bytes at e) new n) where
+      count-is : n ≡ A .count
+      count-is = omega (arith, C .count, long)
+
+      pub node-room : n ≤ length new
+      node-room = omega (arith, count-is, A .few, C .size)
+
+      pub node-share : n ≡ length (take n new)
+      node-share = sym (length-take-le n new node-room)
+
+      read : node-words (drop at bytes) ≡ ok (take n new, drop e bytes)
+      read = G .is ∙ ap (λ (ws : List ℕ). ok (ws, drop e bytes)) (A .is ∙ sym (C .is ∙ (λ i. words (count-is i) (take (size i) (drop at bytes)))))
+
+      module _ {table : ℕ} {w s : List ℕ} {c : Counters} {w′ s′ : List ℕ} {i : Interned} (D : AddsNode table w s c (take n new) w′ s′ i) where
+        pub node-not-added : {x : ℕ} → i ≡ interned.Refused x → StoresNode bytes at table w s c w′ s′ (stored.Refused x)
+        unfolding _>>=_
+        node-not-added q = record { is = λ a H. stored-stop (node-next (length w) (length s) table a (drop at bytes) read (adds-stop (D .is a H) q)) }
+
+        pub node-added : {k : ℕ} {d : Counters} → i ≡ interned.Node k d → StoresNode bytes at table w s c w′ s′ (stored.To e d)
+        unfolding _>>=_
+        node-added q = record {
+          is = λ a H.
+              let B = adds-done (D .is a H) q in
+              stored-to (node-next (length w) (length s) table a (drop at bytes) read (B .is)) (G .high) (B .holds);
+        }
+
+-- ---- the loop
+pub record Turn (bytes : List ℕ) (first : ℕ) (w₀ s₀ : List ℕ) (table count : ℕ) (w s : List ℕ) (at : ℕ) (c : Counters) (left : ℕ) : Type 0 where
+  pub words-long : length w ≡ length w₀
+  pub starts-long : length s ≡ length s₀
+  pub arena : Arena
+  pub holds : Holds table w s c arena
+  pub inside : at ≤ length bytes
+  pub same : nodes (length w₀) (length s₀) table count [] (drop first bytes) ≡ nodes (length w₀) (length s₀) table left arena (drop at bytes)
+
+module _ {bytes : List ℕ} {first : ℕ} {w₀ s₀ : List ℕ} {table count : ℕ} where
+  pub turn-start : ReadyEmpty bytes first table w₀ s₀ → Turn bytes first w₀ s₀ table count w₀ s₀ first (record { nodes = 0; words = 0 }) count
+  turn-start E = record { words-long = refl; starts-long = refl; arena = []; holds = E .holds; inside = E .inside; same = refl }
+
+  module _ {w s : List ℕ} {at : ℕ} {c : Counters} {left : ℕ} (T : Turn bytes first w₀ s₀ table count w s at c left) where
+    pub turn-ready : Ready bytes at table w s c
+    turn-ready = record { inside = T .inside; view = T .arena; holds = T .holds }
+
+    module _ (h : 0 < left) {w′ s′ : List ℕ} {r : Nodes} (N : StoresNode bytes at table w s c w′ s′ r) where
+      one : Stores bytes table w′ s′ r (node (length w₀) (length s₀) table (T .arena) (drop at bytes))
+      one = subst (Stores bytes table w′ s′ r) (λ i. node (T .words-long i) (T .starts-long i) table (T .arena) (drop at bytes)) (N .is (T .arena) (T .holds))
+
+      nodes-here : {o : Out (Arena × List ℕ)} → nodes (length w₀) (length s₀) table (suc (left - 1)) (T .arena) (drop at bytes) ≡ o → nodes (length w₀) (length s₀) table count [] (drop first bytes) ≡ o
+      nodes-here p =
+          let i : left ≡ suc (left - 1) = omega (arith, h) in
+          T .same ∙ ap (λ (k : ℕ). nodes (length w₀) (length s₀) table k (T .arena) (drop at bytes)) i ∙ p
+
+      pub turn-stop : {e : ℕ} → r ≡ stored.Refused e → StoresNodes bytes first table count w₀ s₀ w′ s′ r
+      turn-stop p = subst (StoresNodes bytes first table count w₀ s₀ w′ s′) (sym p) (record { is = stored-stop (nodes-here (nodes-stop (length w₀) (length s₀) table (T .arena) (drop at bytes) (left - 1) (stores-stop one p))) })
+
+      pub turn-more : {e : ℕ} {d : Counters} → r ≡ stored.To e d → length w′ ≡ length w → length s′ ≡ length s → Turn bytes first w₀ s₀ table count w′ s′ e d (left - 1)
+      turn-more p lw ls =
+          let S = stores-to one p in
+          record {
+            words-long = lw ∙ T .words-long;
+            starts-long = ls ∙ T .starts-long;
+            arena = S .arena;
+            holds = S .holds;
+            inside = S .high;
+            same = nodes-here (nodes-next (length w₀) (length s₀) table (T .arena) (drop at bytes) (left - 1) (S .is));
+          }
+
+    pub turn-done : left ≤ 0 → StoresNodes bytes first table count w₀ s₀ w s (stored.To at c)
+    unfolding nodes
+    turn-done h =
+        let z : left ≡ 0 = omega (arith, h) in
+        record { is = stored-to (T .same ∙ ap (λ (k : ℕ). nodes (length w₀) (length s₀) table k (T .arena) (drop at bytes)) z) (T .inside) (T .holds) }

@@ -1,0 +1,4 @@
+pub mod Sheet
+pub mod Worked
+pub mod Steps
+pub mod Reading

@@ -1,0 +1,82 @@
+// Reading a sheet from the front: the first fault met is the answer. specs/Sheet.antt says what a sheet is, specs/Reading.antt
+// what `read_sheet` answers.
+mod bytes;
+mod nodes;
+mod table;
+
+use bytes::Place;
+use bytes::short;
+use nodes::Nodes;
+use nodes::read_nodes;
+use table::read_names;
+use types::Counters;
+use types::arc_ty::wide;
+ghost use Rattle.sheet_reading.specs.Reading.{Blank, ReadsSheet, Readable, Opened, ReadsContents};
+
+// Where the table ends, the counters and the root; or the number of a refusal.
+pub enum Reading {
+    Sheet(usize, Counters, u32),
+    Refused(u32),
+}
+
+// Names and nodes, from the bytes of the input that may be read.
+fn read_contents(
+    input: &[u8],
+    bytes: &[u8],
+    words: &mut [u32],
+    starts: &mut [u32],
+    names: usize,
+    nodes: usize,
+    root: u32,
+) -> Reading
+    requires { ⌜ Opened (now input) (now bytes) (now words) (now starts) ⌝ }
+    ensures { λ r. ⌜ ReadsContents (now (input .entry)) (now (bytes .entry)) names nodes root (now (words .exit)) (now (starts .exit)) r ⌝ }
+{
+    if names > 256 {
+        return Reading::Refused(1);
+    }
+    let table = read_names(bytes, 6, names);
+    match table {
+        Place::Refused(number) => Reading::Refused(number),
+        Place::At(end) => {
+            let stored = read_nodes(bytes, end, words, starts, names, nodes);
+            match stored {
+                Nodes::Refused(number) => Reading::Refused(number),
+                Nodes::To(at, c) => {
+                    let node = wide(root);
+                    if at < input.len() {
+                        return Reading::Refused(10);
+                    }
+                    if node >= c.nodes {
+                        return Reading::Refused(6);
+                    }
+                    Reading::Sheet(end, c, root)
+                }
+            }
+        }
+    }
+}
+
+// The bytes that may be read.
+fn readable(input: &[u8]) -> &[u8]
+    ensures { λ r. ⌜ Readable (now (input .entry)) (now r) ⌝ }
+{
+    if input.len() > 65536 {
+        return &input[..65536];
+    }
+    input
+}
+
+// Reads the sheet into memory of full size that is all zero.
+pub fn read_sheet(input: &[u8], words: &mut [u32], starts: &mut [u32]) -> Reading
+    requires { ⌜ Blank (now words) (now starts) ⌝ }
+    ensures { λ r. ⌜ ReadsSheet (now (input .entry)) (now (words .exit)) (now (starts .exit)) r ⌝ }
+{
+    let bytes = readable(input);
+    if bytes.len() < 6 {
+        return Reading::Refused(10);
+    }
+    let names = wide(short(bytes, 0));
+    let nodes = wide(short(bytes, 2));
+    read_contents(input, bytes, words, starts, names, nodes, short(bytes, 4))
+}

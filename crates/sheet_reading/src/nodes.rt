@@ -1,0 +1,135 @@
+// The nodes of a sheet, read into lent memory. The arena in memory is known to be sound, and stays so: it isn't checked again.
+use crate::bytes::Place;
+use crate::bytes::word;
+use arena::added::Interned;
+use arena::added::intern_node;
+use node_faults::fault;
+use node_faults::head_fits;
+use types::Counters;
+use types::arc_ty::Head;
+use types::arc_ty::wide;
+ghost use Rattle.arena.specs.Added.{Under};
+ghost use Rattle.sheet_reading.specs.Steps.{Here, ReadsWords, Stretch, Copied, AddsNode, Ready, StoresNode, ReadyEmpty, StoresNodes};
+
+// The place where reading goes on and the counters, or the number of a refusal.
+pub(crate) enum Nodes {
+    To(usize, Counters),
+    Refused(u32),
+}
+
+// Where the node ends whose head stands at `at`: the head is judged before the body is read.
+fn node_end(bytes: &[u8], at: usize) -> Place
+    requires { ⌜ Here (now bytes) at ⌝ }
+    ensures { λ r. ⌜ ReadsWords (now (bytes .entry)) at r ⌝ }
+{
+    let left = bytes.len() - at;
+    if left < 4 {
+        return Place::Refused(10);
+    }
+    let head = Head {
+        word: word(bytes, at),
+    };
+    let size = 4 + 4 * head.count();
+    let fits = head_fits(head);
+    if fits {
+        if left < size {
+            return Place::Refused(10);
+        }
+        let end = at + size;
+        return Place::At(end);
+    }
+    Place::Refused(3)
+}
+
+// Copies the words that the bytes have, and answers how many.
+fn copy_words(bytes: &[u8], node: &mut [u32; 66]) -> usize
+    requires { ⌜ Stretch (now bytes) (now node) ⌝ }
+    ensures { λ r. ⌜ Copied (now (bytes .entry)) (now (node .exit)) r ⌝ }
+{
+    let count = bytes.len() / 4;
+    let mut i = 0;
+    while i < count {
+        node[i] = word(bytes, 4 * i);
+        i += 1;
+    }
+    count
+}
+
+// Adds the node with these words, which must be without fault and new.
+fn add_node(
+    words: &mut [u32],
+    starts: &mut [u32],
+    c: Counters,
+    names: usize,
+    node: &[u32],
+) -> Interned
+    requires { ⌜ Under names (now words) (now starts) c ⌝ }
+    ensures { λ r. ⌜ AddsNode names (now (words .entry)) (now (starts .entry)) c (now (node .entry)) (now (words .exit)) (now (starts .exit)) r ⌝ }
+{
+    let number = fault(node, c.nodes, names);
+    if number != 0 {
+        return Interned::Refused(number);
+    }
+    let interned = intern_node(words, starts, c, node);
+    let Interned::Node(n, d) = interned else {
+        return interned;
+    };
+    if wide(n) < c.nodes {
+        return Interned::Refused(10);
+    }
+    Interned::Node(n, d)
+}
+
+// Reads the node whose head stands at `at`.
+fn read_node(
+    bytes: &[u8],
+    at: usize,
+    words: &mut [u32],
+    starts: &mut [u32],
+    c: Counters,
+    names: usize,
+) -> Nodes
+    requires { ⌜ Ready (now bytes) at names (now words) (now starts) c ⌝ }
+    ensures { λ r. ⌜ StoresNode (now (bytes .entry)) at names (now (words .entry)) (now (starts .entry)) c (now (words .exit)) (now (starts .exit)) r ⌝ }
+{
+    let place = node_end(bytes, at);
+    match place {
+        Place::Refused(number) => Nodes::Refused(number),
+        Place::At(end) => {
+            let mut node = [0u32; 66];
+            let count = copy_words(&bytes[at..end], &mut node);
+            let interned = add_node(words, starts, c, names, &node[..count]);
+            match interned {
+                Interned::Refused(number) => Nodes::Refused(number),
+                Interned::Node(n, d) => Nodes::To(end, d),
+            }
+        }
+    }
+}
+
+// Reads so many nodes from `first` on into memory that holds none.
+pub(crate) fn read_nodes(
+    bytes: &[u8],
+    first: usize,
+    words: &mut [u32],
+    starts: &mut [u32],
+    names: usize,
+    count: usize,
+) -> Nodes
+    requires { ⌜ ReadyEmpty (now bytes) first names (now words) (now starts) ⌝ }
+    ensures { λ r. ⌜ StoresNodes (now (bytes .entry)) first names count (now (words .entry)) (now (starts .entry)) (now (words .exit)) (now (starts .exit)) r ⌝ }
+{
+    let mut at = first;
+    let mut c = Counters { nodes: 0, words: 0 };
+    let mut left = count;
+    while left > 0 {
+        let next = read_node(bytes, at, words, starts, c, names);
+        let Nodes::To(end, d) = next else {
+            return next;
+        };
+        at = end;
+        c = d;
+        left -= 1;
+    }
+    Nodes::To(at, c)
+}
