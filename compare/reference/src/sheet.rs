@@ -112,21 +112,35 @@ pub fn line(sheet: &[u8], left_out: &mut bool) -> Reply<String> {
     Ok(format!("{} {} {text}", run.root, run.passes))
 }
 
+/// The root and the text by the unchanged Rust alone, as a host without limits would work: the sheet is read as above, but
+/// neither the passes nor 7 and 8 are found.
+pub fn unchanged_line(sheet: &[u8]) -> Reply<String> {
+    let Sheet { names, nodes, root } = read(sheet)?;
+    let mut rust = Rust::holding(&nodes, &names);
+    let root = rust.simplify(root);
+    let text = rust.display(root, TEXT)?;
+    Ok(format!("{root} {text}"))
+}
+
 #[cfg(test)]
 mod tests {
     use super::*;
 
-    fn answer(hex: &str) -> Reply<String> {
+    fn bytes(hex: &str) -> Vec<u8> {
         let digits: String = hex.split_whitespace().collect();
         let byte = |at: usize| u8::from_str_radix(&digits[at..at + 2], 16).unwrap();
-        let bytes: Vec<u8> = (0..digits.len()).step_by(2).map(byte).collect();
-        line(&bytes, &mut false)
+        (0..digits.len()).step_by(2).map(byte).collect()
+    }
+
+    fn answer(hex: &str) -> Reply<String> {
+        line(&bytes(hex), &mut false)
     }
 
     #[test]
     fn the_example() {
         let sheet = "000000030002 30000001 00000000 20000001 00000002 70000002 00000000 00000001";
         assert_eq!(answer(sheet).unwrap(), "1 2 int");
+        assert_eq!(unchanged_line(&bytes(sheet)).unwrap(), "1 int");
         assert_eq!(answer(&format!("{sheet} 00")), Err(10));
         assert_eq!(answer(&sheet[..sheet.len() - 2]), Err(10));
     }

@@ -25,6 +25,9 @@ use questions::vars::Asked;
 use questions::vars::contains_bare_tyvar;
 use questions::vars::has_type_vars;
 use questions::vars::needs_var_normalization;
+use renumber::normalize_replacing_unknown;
+use renumber::normalize_vars;
+use set_ops::normalize_set_ops;
 use simplify::Simplified;
 use simplify::simplify;
 use types::Counters;
@@ -42,7 +45,7 @@ pub enum Step {
 }
 
 // The end of a line.
-fn done(used: usize, out: &mut [u8], held: usize) -> Step {
+pub fn done(used: usize, out: &mut [u8], held: usize) -> Step {
     Step::Done {
         used,
         held: put_text(out, held, b"\n"),
@@ -54,7 +57,7 @@ fn line(used: usize, out: &mut [u8], held: usize, text: &[u8]) -> Step {
     done(used, out, held)
 }
 
-fn refused(out: &mut [u8], held: usize, number: u32) -> usize {
+pub fn refused(out: &mut [u8], held: usize, number: u32) -> usize {
     let held = put_text(out, held, b"refused ");
     put_decimal(out, held, wide(number))
 }
@@ -64,7 +67,7 @@ fn refusal(used: usize, out: &mut [u8], held: usize, number: u32) -> Step {
     done(used, out, held)
 }
 
-fn ok(out: &mut [u8], held: usize, number: usize) -> usize {
+pub fn ok(out: &mut [u8], held: usize, number: usize) -> usize {
     let held = put_text(out, held, b"ok ");
     put_decimal(out, held, number)
 }
@@ -122,30 +125,49 @@ pub fn name_order(s: &[u8], out: &mut [u8], held: usize) -> Step {
     ordered(end, out, held, order)
 }
 
-// What a host lends: the name table is `s[3..table]`, and the memory lent is the first words and starts.
-struct Host {
-    table: usize,
-    counters: Counters,
-    words: usize,
-    starts: usize,
-    next: usize,
+// Lent memory, which is the first words and starts, and where the case goes on.
+pub struct LentMemory {
+    pub counters: Counters,
+    pub words: usize,
+    pub starts: usize,
+    pub next: usize,
 }
 
-fn lend_host(s: &[u8], words: &mut [u32], starts: &mut [u32]) -> Host {
-    let table = add(3, short(s, 1));
-    let used = add(table, 4);
+pub fn lend_memory(s: &[u8], at: usize, words: &mut [u32], starts: &mut [u32]) -> LentMemory {
+    let used = add(at, 4);
     let counters = Counters {
-        nodes: wide(word(s, table)),
+        nodes: wide(word(s, at)),
         words: wide(word(s, used)),
     };
     let lent_words = lend(s, add(used, 4), words);
     let lent_starts = lend(s, lent_words.next, starts);
-    Host {
-        table,
+    LentMemory {
         counters,
         words: lent_words.count,
         starts: lent_starts.count,
         next: lent_starts.next,
+    }
+}
+
+// What a host lends: the name table is `s[3..table]`, and memory.
+pub struct Host {
+    pub table: usize,
+    pub counters: Counters,
+    pub words: usize,
+    pub starts: usize,
+    pub next: usize,
+}
+
+pub fn lend_host(s: &[u8], words: &mut [u32], starts: &mut [u32]) -> Host {
+    let table = add(3, short(s, 1));
+    let lent = lend_memory(s, table, words, starts);
+    let counters = lent.counters;
+    Host {
+        table,
+        counters,
+        words: lent.words,
+        starts: lent.starts,
+        next: lent.next,
     }
 }
 
@@ -155,13 +177,13 @@ fn and(out: &mut [u8], held: usize, number: usize) -> usize {
     put_decimal(out, held, number)
 }
 
-fn counters(out: &mut [u8], held: usize, c: Counters) -> usize {
+pub fn counters(out: &mut [u8], held: usize, c: Counters) -> usize {
     let held = and(out, held, c.nodes);
     and(out, held, c.words)
 }
 
 // The memory as a call leaves it.
-fn memory(out: &mut [u8], held: usize, words: &[u32], starts: &[u32]) -> usize {
+pub fn memory(out: &mut [u8], held: usize, words: &[u32], starts: &[u32]) -> usize {
     let held = put_lent(out, held, b'W', words);
     put_lent(out, held, b'S', starts)
 }
@@ -281,7 +303,7 @@ fn yes(used: usize, out: &mut [u8], held: usize, so: bool) -> Step {
 }
 
 // What a question answered.
-fn asked(used: usize, out: &mut [u8], held: usize, r: Asked) -> Step {
+pub fn asked(used: usize, out: &mut [u8], held: usize, r: Asked) -> Step {
     match r {
         Asked::Is(so) => yes(used, out, held, so),
         Asked::Refused(number) => refusal(used, out, held, number),
@@ -361,6 +383,40 @@ fn simplify_lent(
     done(used, out, held)
 }
 
+// The call that has this number.
+fn changed(
+    op: usize,
+    table: &[u8],
+    words: &mut [u32],
+    starts: &mut [u32],
+    c: Counters,
+    root: u32,
+) -> Interned {
+    match op {
+        10 => normalize_vars(table, words, starts, c, root),
+        12 => normalize_replacing_unknown(table, words, starts, c, root),
+        _ => normalize_set_ops(table, words, starts, c, root),
+    }
+}
+
+// A type with its variables numbered or its lists sorted, and the memory after.
+fn change_lent(
+    op: usize,
+    table: &[u8],
+    words: &mut [u32],
+    starts: &mut [u32],
+    c: Counters,
+    root: u32,
+    used: usize,
+    out: &mut [u8],
+    held: usize,
+) -> Step {
+    let r = changed(op, table, words, starts, c, root);
+    let held = interned(out, held, r);
+    let held = memory(out, held, words, starts);
+    done(used, out, held)
+}
+
 // The answer of the call that has this number.
 fn ask(
     op: usize,
@@ -381,6 +437,7 @@ fn ask(
             held,
             free_type_vars(table, words, starts, c, root),
         ),
+        10 | 12 | 17 => change_lent(op, table, words, starts, c, root, used, out, held),
         16 => unwrapped(used, out, held, unwrap_named(table, words, starts, c, root)),
         20 => counted(
             used,

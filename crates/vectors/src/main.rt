@@ -2,7 +2,10 @@
 // Rust says of the same cases. A case is a byte that names the call, and its arguments.
 mod answers;
 mod input;
+mod lent_text;
 mod output;
+mod pairs;
+mod texts;
 
 use answers::Step;
 use input::Input;
@@ -16,6 +19,8 @@ fn answer(
     words: &mut [u32],
     starts: &mut [u32],
     node: &mut [u32],
+    more: &mut [u32],
+    text: &mut [u8],
     out: &mut [u8],
     held: usize,
 ) -> Step {
@@ -26,9 +31,15 @@ fn answer(
         1 => answers::tyvar(s, out, held),
         2 => answers::intern(s, words, starts, node, out, held),
         3 => answers::compare(s, words, starts, out, held),
+        5 => texts::display_type(s, words, starts, text, out, held),
         6 => answers::table(s, out, held),
         7 => answers::name_order(s, out, held),
-        4 | 9 | 11 | 13 | 14 | 15 | 16 | 20 => answers::on_type(s, words, starts, out, held),
+        8 => texts::sheet(s, out, held),
+        18 => pairs::compaction(s, words, starts, node, more, out, held),
+        19 => pairs::equality(s, words, starts, node, more, out, held),
+        4 | 9 | 10 | 11 | 12 | 13 | 14 | 15 | 16 | 17 | 20 => {
+            answers::on_type(s, words, starts, out, held)
+        }
         _ => Step::Cut,
     }
 }
@@ -39,6 +50,8 @@ fn answer_all(
     words: &mut [u32],
     starts: &mut [u32],
     node: &mut [u32],
+    more: &mut [u32],
+    text: &mut [u8],
     out: &mut [u8],
 ) {
     let mut input = Input {
@@ -52,7 +65,16 @@ fn answer_all(
         input = refill(buf, input);
         let at = input.at;
         let end = input.end;
-        let step = answer(input::part(buf, at, end), words, starts, node, out, held);
+        let step = answer(
+            input::part(buf, at, end),
+            words,
+            starts,
+            node,
+            more,
+            text,
+            out,
+            held,
+        );
         let Step::Done {
             used,
             held: now_held,
@@ -73,9 +95,11 @@ fn answer_from(
     words: &mut [u32],
     starts: &mut [u32],
     node: &mut [u32],
+    more: &mut [u32],
+    text: &mut [u8],
     out: &mut [u8],
 ) {
-    answer_all(buf, words, starts, node, out);
+    answer_all(buf, words, starts, node, more, text, out);
 }
 
 fn main() {
@@ -83,6 +107,16 @@ fn main() {
     let mut words = [0u32; 65535];
     let mut starts = [0u32; 65535];
     let mut node = [0u32; 65535];
+    let mut more = [0u32; 65535];
+    let mut text = [0u8; 70000];
     let mut out = [0u8; 65536];
-    answer_from(&mut buf, &mut words, &mut starts, &mut node, &mut out);
+    answer_from(
+        &mut buf,
+        &mut words,
+        &mut starts,
+        &mut node,
+        &mut more,
+        &mut text,
+        &mut out,
+    );
 }

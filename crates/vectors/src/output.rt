@@ -83,3 +83,20 @@ pub fn put_list(out: &mut [u8], held: usize, words: &[u32], count: usize) -> usi
     }
     put_words(out, held, words, count)
 }
+
+// Bytes by two digits each.
+pub fn put_bytes(out: &mut [u8], held: usize, bytes: &[u8]) -> usize {
+    let mut held = put(out, held, b' ');
+    let mut i = 0;
+    while i < bytes.len() {
+        held = put_byte(out, held, bytes[i]);
+        i += 1;
+    }
+    held
+}
+
+fn put_byte(out: &mut [u8], held: usize, byte: u8) -> usize {
+    let mut digits = [0u8; 16];
+    let count = io::hex(byte as u64, 2, &mut digits);
+    put_text(out, held, &digits[..count])
+}

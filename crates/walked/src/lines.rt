@@ -1,4 +1,6 @@
 // A line for each call on a type: the type, the call, and what it answered.
+use display::Displayed;
+use display::display;
 use free_vars::Answer;
 use free_vars::FreeVars;
 use free_vars::VarList;
@@ -110,6 +112,39 @@ fn and(n: usize) {
     io::print_decimal(1, n as u64);
 }
 
+// The first bytes of a text, as many as this; none where they aren't there.
+fn front<'a>(text: &'a [u8], count: usize) -> &'a [u8] {
+    if count <= text.len() {
+        return &text[0..count];
+    }
+    &text[0..0]
+}
+
+// Twenty at most.
+fn few(n: usize) -> usize {
+    if n < 20 {
+        return n;
+    }
+    20
+}
+
+// The length of the text, and how it begins.
+fn printed(text: &[u8], n: usize) {
+    say(b"ok");
+    and(n);
+    say(b" ");
+    say(front(text, few(n)));
+    say(b"\n");
+}
+
+fn displayed(shape: &[u8], r: Displayed, text: &[u8]) {
+    label(shape, b"display");
+    match r {
+        Displayed::Text(n) => printed(text, n),
+        Displayed::Refused(n) => refused(n),
+    }
+}
+
 // The root after, the passes made and the counters.
 fn changed(root: u32, passes: u32, c: Counters) {
     say(b"ok");
@@ -144,8 +179,17 @@ fn ask(shape: &[u8], table: &[u8], words: &[u32], starts: &[u32], c: Counters, r
 }
 
 // All calls, under the names p and q; the one that changes memory comes last.
-pub fn ask_all(shape: &[u8], words: &mut [u32], starts: &mut [u32], c: Counters, root: u32) {
+pub fn ask_all(
+    shape: &[u8],
+    words: &mut [u32],
+    starts: &mut [u32],
+    c: Counters,
+    root: u32,
+    text: &mut [u8],
+) {
     let table = [1, b'p', 1, b'q'];
     ask(shape, &table, words, starts, c, root);
+    let r = display(&table, words, starts, c, root, text);
+    displayed(shape, r, text);
     simplified(shape, simplify(&table, words, starts, c, root));
 }

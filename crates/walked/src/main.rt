@@ -1,26 +1,27 @@
-// `simplify` and every question, on types that are deep or have a node at very many places, and on document 01's pair of sets. It prints
+// `simplify`, `display` and every question, on types that are deep or have a node at very many places, and on document 01's pair of sets. It prints
 // a line a call. What it must print was made by the Rust (compare/reference/src/bin/walked.rs).
 mod lines;
-mod shapes;
 
+use deep_types::Step;
+use deep_types::put_chain;
+use deep_types::put_pair;
 use lines::ask_all;
-use shapes::Step;
-use shapes::put_chain;
-use shapes::put_pair;
 use types::arc_ty::Head;
 
 fn chain(shape: &[u8], int: bool, step: Step) {
     let mut words = [0u32; 16384];
     let mut starts = [0u32; 4096];
     let c = put_chain(&mut words, &mut starts, int, step);
-    ask_all(shape, &mut words, &mut starts, c, 4095);
+    let mut text = [0u8; 65536];
+    ask_all(shape, &mut words, &mut starts, c, 4095, &mut text);
 }
 
 fn pair(shape: &[u8], q: u32) {
     let mut words = [0u32; 16384];
     let mut starts = [0u32; 4096];
     let c = put_pair(&mut words, &mut starts, q);
-    ask_all(shape, &mut words, &mut starts, c, 5);
+    let mut text = [0u8; 65536];
+    ask_all(shape, &mut words, &mut starts, c, 5, &mut text);
 }
 
 // Each node is both children of the next, so the variable has 2^4095 places.

@@ -1,13 +1,14 @@
 -- The worked types of document 01 that are to be proved (those with a star), and words for each of its sentences on a node.
 use Prim.Native.Nat.{ℕ}
 use Prim.Native.String.{String}
+use mathlib.Core.Path.{_≡_}
 use mathlib.Core.Bool.{Bool, true, false}
-use mathlib.Core.List.{List, [], _∷_}
+use mathlib.Core.List.{List, [], _∷_, map}
 use mathlib.Core.Option.{Option}
 use lib.ListN.{replicate}
 use Rattle.words.specs.Words.{bit}
 use Rattle.types.specs.Bytes.{bytes}
-use Rattle.types.specs.Out.{number}
+use Rattle.types.specs.Out.{Out, ok, number}
 use Rattle.types.specs.Tyvar.{tyvar-name}
 use Rattle.types.specs.Node.{positive, field, primitive, lambda, attrset, members, var, form, Node, node, decode}
 use Rattle.types.specs.Fault.{fault}
@@ -15,6 +16,8 @@ use Rattle.types.specs.Arena.{Arena, sound}
 use Rattle.types.specs.Memory.{arena-of}
 use Rattle.questions.specs.Lambdas.{has-shared-tyvar-across-lambda-params}
 use Rattle.simplification.specs.Worked as simplify
+use Rattle.display.specs.Worked as display
+use Rattle.set_op_lists.specs.SetOps.{normalize-set-ops}
 
 -- what the definitions give, and what 01 says
 pub record Case : Type 0 where
@@ -112,3 +115,28 @@ shared = shares (pair 3 3 ∷ lambdas) 5 false ∷ shares (pair 3 4 ∷ lambdas)
 -- what `simplify` makes of 01's types, both ladders among them: the root's node and the passes made. The cases stand with its definitions, whose must-fail edits need them
 abbrev pub simplified : List simplify.Case
 simplified = simplify.worked
+
+-- what `normalize_set_ops` gives, with all memory lent, and what it should give: the root's number, and the arena after
+pub record Normalized : Type 0 where
+  pub gives : Out (ℕ × Arena)
+  pub says : Out (ℕ × Arena)
+
+-- U[int, null, U[null, bool]] as node 4, after int, null, bool and U[null, bool]
+abbrev nested : Arena
+nested = node (members positive) (0 ∷ 1 ∷ 3 ∷ []) ∷ node (members positive) (1 ∷ 2 ∷ []) ∷ node (form (primitive 1)) [] ∷ node (form (primitive 0)) [] ∷ node (form (primitive 2)) [] ∷ []
+
+-- it becomes the union of null, bool and int, in this order, which is added as node 5 (01, "Worked types")
+abbrev pub normalized : List Normalized
+normalized = record { gives = normalize-set-ops 16384 4096 4 nested; says = ok (5, node (members positive) (1 ∷ 2 ∷ 0 ∷ []) ∷ nested) } ∷ []
+
+-- the empty sets among the types that are printed, and one for each rule of printing
+abbrev pub printed : List display.Case
+printed = display.worked
+
+-- every starred type of 01, and what else stands in its lists: what the definitions give is what it says
+pub record Starred : Type 0 where
+  pub variables : map (λ (c : Case). c .gives) worked ≡ map (λ (c : Case). c .says) worked
+  pub simplifies : map (λ (c : simplify.Case). c .gives) simplified ≡ map (λ (c : simplify.Case). c .says) simplified
+  pub normalizes : map (λ (c : Normalized). c .gives) normalized ≡ map (λ (c : Normalized). c .says) normalized
+  pub prints-so : map (λ (c : display.Case). c .gives) printed ≡ map (λ (c : display.Case). c .says) printed
+  pub shares : map (λ (c : Case). c .gives) shared ≡ map (λ (c : Case). c .says) shared

@@ -6,10 +6,10 @@ use Rattle.vectors.proofs.answer_all.Statement.{statement}
 use Rattle.vectors.proofs.answer_all.Tie as tie
 
 abbrev Inv-loop : tie.InvT-loop
-Inv-loop buf₀ words₀ starts₀ node₀ out₀ input₀ held₀ left₀ buf words starts node out input held left = (length buf ≡ length buf₀) × (length words ≡ length words₀) × (length starts ≡ length starts₀) × (length node ≡ length node₀) × (length out ≡ length out₀)
+Inv-loop buf₀ words₀ starts₀ node₀ more₀ text₀ out₀ input₀ held₀ left₀ buf words starts node more text out input held left = (length buf ≡ length buf₀) × (length words ≡ length words₀) × (length starts ≡ length starts₀) × (length node ≡ length node₀) × (length more ≡ length more₀) × (length text ≡ length text₀) × (length out ≡ length out₀)
 
 abbrev μ-loop : tie.MeasureT-loop
-μ-loop buf₀ words₀ starts₀ node₀ out₀ input₀ held₀ left₀ buf words starts node out input held left = left
+μ-loop buf₀ words₀ starts₀ node₀ more₀ text₀ out₀ input₀ held₀ left₀ buf words starts node more text out input held left = left
 
 loop-holds : tie.Need-loop-holds Inv-loop μ-loop
 loop-holds c = search needs
@@ -47,6 +47,9 @@ same-length-4 c = search needs
 same-length-5 : tie.Need-same-length-5 Inv-loop μ-loop
 same-length-5 c = search needs
 
+same-length-6 : tie.Need-same-length-6 Inv-loop μ-loop
+same-length-6 c = search needs
+
 returns : tie.Need-returns Inv-loop μ-loop
 returns c = search needs
 
@@ -62,9 +65,6 @@ loop-less c = search needs
 loop-again : tie.Need-loop-again Inv-loop μ-loop
 loop-again c = search needs
 
-same-length-6 : tie.Need-same-length-6 Inv-loop μ-loop
-same-length-6 c = search needs
-
 same-length-7 : tie.Need-same-length-7 Inv-loop μ-loop
 same-length-7 c = search needs
 
@@ -76,6 +76,18 @@ same-length-9 c = search needs
 
 same-length-10 : tie.Need-same-length-10 Inv-loop μ-loop
 same-length-10 c = search needs
+
+same-length-11 : tie.Need-same-length-11 Inv-loop μ-loop
+same-length-11 c = search needs
+
+same-length-12 : tie.Need-same-length-12 Inv-loop μ-loop
+same-length-12 c = search needs
+
+same-length-13 : tie.Need-same-length-13 Inv-loop μ-loop
+same-length-13 c = search needs
+
+same-length-14 : tie.Need-same-length-14 Inv-loop μ-loop
+same-length-14 c = search needs
 
 returns-2 : tie.Need-returns-2 Inv-loop μ-loop
 returns-2 c = search needs
@@ -98,14 +110,18 @@ answer-all-spec =
     same-length-3
     same-length-4
     same-length-5
+    same-length-6
+    same-length-7
     returns
     add-requires
     sub-left
     loop-less
     loop-again
-    same-length-6
-    same-length-7
     same-length-8
     same-length-9
     same-length-10
+    same-length-11
+    same-length-12
+    same-length-13
+    same-length-14
     returns-2)

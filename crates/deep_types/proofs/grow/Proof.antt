@@ -3,8 +3,8 @@ use Prim.Native.Nat.{_-_}
 use mathlib.Core.Path.{_≡_}
 use lib.ListN.{length}
 use borrow.Author.Needs.{needs}
-use Rattle.walked.proofs.shapes.grow.Statement.{statement}
-use Rattle.walked.proofs.shapes.grow.Tie as tie
+use Rattle.deep_types.proofs.grow.Statement.{statement}
+use Rattle.deep_types.proofs.grow.Tie as tie
 
 abbrev Inv-loop : tie.InvT-loop
 Inv-loop words₀ starts₀ step c₀ n₀ words starts c n = (length words ≡ length words₀) × (length starts ≡ length starts₀)

@@ -3,8 +3,8 @@ use Prim.Native.Nat.{_-_, _≤_}
 use mathlib.Core.Path.{_≡_}
 use lib.ListN.{length}
 use borrow.Author.Needs.{needs}
-use Rattle.walked.proofs.shapes.put.Statement.{statement}
-use Rattle.walked.proofs.shapes.put.Tie as tie
+use Rattle.deep_types.proofs.put.Statement.{statement}
+use Rattle.deep_types.proofs.put.Tie as tie
 
 abbrev Inv-loop : tie.InvT-loop
 Inv-loop words₀ starts kind body n at i₀ words i = (i ≤ length body) × (length words ≡ length words₀)

@@ -1,4 +1,5 @@
-// The types that are asked about, put node by node into lent memory that is zero.
+// Types that are deep or have a node at very many places, and document 01's pair of sets, put node by node into lent memory that
+// is zero. For the programs that ask about them.
 use types::Counters;
 use types::arc_ty::Head;
 use types::attrset::field_word;
