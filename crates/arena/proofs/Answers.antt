@@ -12,17 +12,19 @@ use Rattle.types.specs.Arena.{Arena}
 use Rattle.types.specs.Memory.{Holds}
 use Rattle.types.specs.Reply.{Reply, reply, reply-of, tabled, judged}
 use Rattle.types.specs.declared.Counters.{Counters}
-use Rattle.types.proofs.Decodes.{decode-ok, Faultless, faultless, faulty}
+use Rattle.types.proofs.Decodes.{decode-ok, faulty}
 use Rattle.types.proofs.Replies.{tabled-yes, judged-yes}
 use Rattle.names.specs.Table.{Name, names-of}
-use Rattle.arena.specs.Added.{Fresh, Interns, Under, InternsWords}
-use Rattle.arena.specs.Sound.{lent-reply, judged-out}
-use Rattle.arena.specs.Intern.{intern, interning, intern-reply, left}
-use Rattle.arena.specs.declared.added.Interned.{Interned}
-use Rattle.arena.specs.declared.added.Interned.the-variants as interned
-use Rattle.arena.specs.declared.sound.Judged.{Judged}
-use Rattle.arena.specs.declared.sound.Judged.the-variants as verdict
-use Rattle.arena.proofs.Verdicts.{lent-refused, lent-names}
+use Rattle.node_store.specs.Added.{Interns, Under}
+use Rattle.node_store.specs.Intern.{intern, left}
+use Rattle.soundness.specs.Sound.{lent-reply, judged-out}
+use Rattle.arena.specs.Intern.{interning, intern-reply, InternsWords}
+use Rattle.node_store.specs.declared.added.Interned.{Interned}
+use Rattle.node_store.specs.declared.added.Interned.the-variants as interned
+use Rattle.soundness.specs.declared.Judged.{Judged}
+use Rattle.soundness.specs.declared.Judged.the-variants as verdict
+use Rattle.node_store.proofs.Additions.{number-is, node-in}
+use Rattle.soundness.proofs.Verdicts.{lent-refused, lent-names}
 
 -- the steps after 1 and 2
 interning-is : (words starts : ℕ) (ws : List ℕ) (table : ℕ) (a : Arena) (x : Node) → IsNode table (length a) ws x → interning words starts ws table a ≡ intern words starts x a
@@ -35,28 +37,19 @@ interning-no words starts ws table a f = ap (λ (o : Out Node). o >>= λ y. inte
 
 -- ---- words in an arena that is known to be sound
 module _ {table : ℕ} {w s : List ℕ} {c : Counters} (ws : List ℕ) {m : ℕ} (z : m ≡ number (decode table (c .nodes) ws)) where
-  number-is : (a : Arena) → Holds table w s c a → m ≡ number (decode table (length a) ws)
-  number-is a H = z ∙ ap (λ (i : ℕ). number (decode table i ws)) (H .nodes)
-
   pub words-fault : (m ≡ 0 → ⊥) → InternsWords table w s c ws w s (interned.Refused m)
   unfolding reply-of
   words-fault f = record {
     is = λ a H.
-        ap (λ (i : ℕ). reply (refuse i) c w s) (number-is a H)
-        ∙ sym (ap (reply-of w s c) (interning-no (length w) (length s) ws table a (λ i. f (number-is a H ∙ i))));
+        ap (λ (i : ℕ). reply (refuse i) c w s) (number-is ws z a H)
+        ∙ sym (ap (reply-of w s c) (interning-no (length w) (length s) ws table a (λ i. f (number-is ws z a H ∙ i))));
   }
 
   module _ (f : m ≡ 0) where
-    node-in : (a : Arena) → Holds table w s c a → Faultless table (length a) ws
-    node-in a H = faultless table (length a) ws (sym (number-is a H) ∙ f)
-
-    pub words-fresh : Under table w s c → Fresh w s c ws
-    words-fresh U = let D = node-in (U .view) (U .holds) in record { table = table; view = U .view; holds = U .holds; node = D .node; is = D .is }
-
     pub words-node : {w′ s′ : List ℕ} {i : Interned} → Interns w s c ws w′ s′ i → InternsWords table w s c ws w′ s′ i
     words-node I = record {
       is = λ a H.
-          let D = node-in a H in
+          let D = node-in ws z f a H in
           I .is table a (D .node) H (D .is) ∙ sym (ap (reply-of w s c) (interning-is (length w) (length s) ws table a (D .node) (D .is)));
     }
 

@@ -11,14 +11,14 @@ use Rattle.types.specs.declared.Ordering.{Ordering}
 use Rattle.types.proofs.Replies.{rooted-no, rooted-yes}
 use Rattle.names.specs.Table.{Name}
 use Rattle.node_order.specs.NodeOrder.{node-order}
-use Rattle.arena.specs.Stored.{Ordered}
-use Rattle.arena.specs.Sound.{lent-reply, judged-out}
+use Rattle.node_store.specs.Stored.{Ordered}
+use Rattle.soundness.specs.Sound.{lent-reply, judged-out}
 use Rattle.arena.specs.Compare.{comparing, compare-reply, compared-out, ComparesIn}
 use Rattle.arena.specs.declared.Compared.{Compared}
 use Rattle.arena.specs.declared.Compared.the-variants as compared
-use Rattle.arena.specs.declared.sound.Judged.{Judged}
-use Rattle.arena.specs.declared.sound.Judged.the-variants as verdict
-use Rattle.arena.proofs.Verdicts.{lent-refused, lent-done}
+use Rattle.soundness.specs.declared.Judged.{Judged}
+use Rattle.soundness.specs.declared.Judged.the-variants as verdict
+use Rattle.soundness.proofs.Verdicts.{lent-refused, lent-done}
 
 abbrev answer : ℕ → ℕ → Arena → Out Ordering
 answer m n a = ok (node-order (at a m) (at a n))

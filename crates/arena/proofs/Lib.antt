@@ -1,10 +1,3 @@
-pub mod Loops
-pub mod Stretches
-pub mod Searches
-pub mod Additions
-pub mod Checks
-pub mod Interning
-pub mod Verdicts
 pub mod Answers
 pub mod Comparisons
 pub mod Twice

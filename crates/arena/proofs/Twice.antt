@@ -17,8 +17,9 @@ use Rattle.types.proofs.Decodes.{well-parts, parts-well}
 use Rattle.types.proofs.Growth.{ext-length}
 use Rattle.types.proofs.Addresses.{Begins, ext-flat, ext-heads}
 use Rattle.names.specs.Table.{Name, names-of}
-use Rattle.arena.specs.Intern.{intern, intern-reply}
-use Rattle.arena.proofs.Interning.{Done, done, done-ext, done-again, done-room, done-holds}
+use Rattle.node_store.specs.Intern.{intern}
+use Rattle.arena.specs.Intern.{intern-reply}
+use Rattle.node_store.proofs.Interning.{Done, done, done-ext, done-again, done-room, done-holds}
 use Rattle.arena.proofs.Answers.{intern-words-is}
 
 -- a node that may stand in an arena may stand in a grown one

@@ -1,24 +1,19 @@
-// The arena in lent memory: `stored` reads a node and finds one, `added` puts one behind the last, `sound` judges memory, and
-// `intern` and `compare`, here, are the calls open to a host. specs/Intern.antt and specs/Compare.antt say what they answer and
-// leave.
-pub mod added;
-pub mod sound;
-pub mod stored;
-
-use added::Interned;
-use added::intern_node;
+// `intern` and `compare`, two calls open to a host. specs/Intern.antt and specs/Compare.antt say what they answer and leave.
 use node_faults::fault;
-use sound::Judged;
-use sound::judge;
-use stored::order_of;
+use node_store::added::Interned;
+use node_store::added::intern_node;
+use node_store::stored::order_of;
+use soundness::Judged;
+use soundness::judge;
 use types::Counters;
 use types::Ordering;
 use types::arc_ty::wide;
 ghost use mathlib.Core.Path.{_≡_};
-ghost use Rattle.arena.specs.Intern.{intern-reply, left};
+ghost use Rattle.arena.specs.Intern.{intern-reply, InternsWords};
 ghost use Rattle.arena.specs.Compare.{compare-reply, compared-out, ComparesIn};
-ghost use Rattle.arena.specs.Stored.{Lent};
-ghost use Rattle.arena.specs.Added.{Under, InternsWords};
+ghost use Rattle.node_store.specs.Stored.{Lent};
+ghost use Rattle.node_store.specs.Intern.{left};
+ghost use Rattle.node_store.specs.Added.{Under};
 
 // The number of the node with the words of `node`, if they have no fault, in an arena that is known to be sound.
 fn intern_words(

@@ -3,11 +3,11 @@ use Prim.Native.Nat.{ℕ, _+_, _*_, _/_, _%_, _^_, _≤_, _<_}
 use mathlib.Core.Path.{_≡_, refl, ap, _∙_}
 use mathlib.Core.List.{List}
 use native.Mathlib.Omega.{arith}
-use lib.ListN.{getD, set}
+use lib.ListN.{length, getD, set}
 use lib.Bits.{bitOr}
 use lib.Count.{ones, ones-le}
 use lib.Dec.{eqb}
-use Rattle.bits.specs.Bits.{has, Row, Put, count-below, Ones}
+use Rattle.bits.specs.Bits.{has, Put, count-below, Ones}
 use Rattle.bits.proofs.Halves.{bit-shift, one-shifted}
 use Rattle.bits.proofs.Sets.{put-word, count-row}
 
@@ -15,8 +15,8 @@ pub tested : (s : List ℕ) (n : ℕ) → eqb (getD s (n / 64) 0 / 2 ^ (n % 64) 
 unfolding has
 tested s n = bit-shift (getD s (n / 64) 0) (n % 64)
 
-pub put-in : (s : List ℕ) (n : ℕ) → Row s n → Put s n (set s (n / 64) (bitOr (getD s (n / 64) 0) ((1 * 2 ^ (n % 64)) % 18446744073709551616)))
-put-in s n R = rw (one-shifted (n % 64) (omega arith)) (put-word s n (omega (arith, R .long, R .inside)))
+pub put-in : (s : List ℕ) (n : ℕ) → n / 64 < length s → Put s n (set s (n / 64) (bitOr (getD s (n / 64) 0) ((1 * 2 ^ (n % 64)) % 18446744073709551616)))
+put-in s n h = rw (one-shifted (n % 64) (omega arith)) (put-word s n h)
 
 pub ones-there : (x : ℕ) → x < 2 ^ 64 → Ones x (ones x)
 ones-there x h = record { is = refl; few = ones-le 64 x h; word = h }

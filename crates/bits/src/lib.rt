@@ -1,17 +1,37 @@
-// Sets of node numbers, one bit a node: 64 words of 64 bits. The laws of proofs/Sets.antt hold for rows of any length.
-ghost use Prim.Native.Nat.{_<_};
+// Sets of numbers, one bit a number: rows of words of any length, and for node numbers 64 words of 64 bits.
+ghost use Prim.Native.Nat.{_/_, _<_};
 ghost use mathlib.Core.Path.{_≡_};
+ghost use lib.ListN.{length};
 ghost use Rattle.bits.specs.Bits.{has, Row, Put, Combined, Union, SymmetricDifference, either, either-word, count-below, Ones};
+
+// Whether n is in the set of a row.
+pub fn test_row(row: &[u64], n: u32) -> bool
+    requires { ⌜ n / 64 < length (now row) ⌝ }
+    ensures { λ r. ⌜ r ≡ has (now (row .entry)) n ⌝ }
+{
+    let w = (n / 64) as usize;
+    let b = n % 64;
+    let x = row[w] >> b;
+    x % 2 == 1
+}
 
 // Whether n is in the set.
 pub fn test(seen: &[u64; 64], n: u32) -> bool
     requires { ⌜ n < 4096 ⌝ }
     ensures { λ r. ⌜ r ≡ has (now (seen .entry)) n ⌝ }
 {
+    test_row(seen, n)
+}
+
+// Puts n into the set of a row.
+pub fn put_row(row: &mut [u64], n: u32)
+    requires { ⌜ n / 64 < length (now row) ⌝ }
+    ensures { λ _. ⌜ Put (now (row .entry)) n (now (row .exit)) ⌝ }
+{
     let w = (n / 64) as usize;
     let b = n % 64;
-    let x = seen[w] >> b;
-    x % 2 == 1
+    let one: u64 = 1;
+    row[w] = row[w] | (one << b);
 }
 
 // Puts n into the set.
@@ -19,10 +39,7 @@ pub fn put(seen: &mut [u64; 64], n: u32)
     requires { ⌜ Row (now seen) n ⌝ }
     ensures { λ _. ⌜ Put (now (seen .entry)) n (now (seen .exit)) ⌝ }
 {
-    let w = (n / 64) as usize;
-    let b = n % 64;
-    let one: u64 = 1;
-    seen[w] = seen[w] | (one << b);
+    put_row(seen, n);
 }
 
 // The ones of a word. An element behind a reference to an array says nothing of its range; a parameter does.

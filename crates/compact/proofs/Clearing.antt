@@ -8,8 +8,8 @@ use Rattle.types.specs.Arena.{Arena, sound}
 use Rattle.types.specs.Memory.{flat, heads, words-of, starts-of, counters-of, Holds}
 use Rattle.types.specs.Reply.{reply-of}
 use Rattle.types.specs.declared.Counters.{Counters}
-use Rattle.arena.specs.declared.added.Interned.{Interned}
-use Rattle.arena.specs.declared.added.Interned.the-variants as interned
+use Rattle.node_store.specs.declared.added.Interned.{Interned}
+use Rattle.node_store.specs.declared.added.Interned.the-variants as interned
 use Rattle.recursion.specs.Work.{Leads, Ready, Does, TakesBack}
 use Rattle.recursion.proofs.Leading.{leads-done, leads-stop}
 use Rattle.recursion.proofs.Remembering.{cache-none}

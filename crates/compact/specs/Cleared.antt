@@ -8,7 +8,7 @@ use Rattle.types.specs.Arena.{Arena}
 use Rattle.types.specs.Memory.{Holds}
 use Rattle.types.specs.Reply.{rooted}
 use Rattle.types.specs.declared.Counters.{Counters}
-use Rattle.arena.specs.Stored.{InRange}
+use Rattle.node_store.specs.Stored.{InRange}
 use Rattle.compact.specs.Compact.{limited, compacted, empty, left}
 use Rattle.compact.specs.declared.Compacted.{Compacted}
 

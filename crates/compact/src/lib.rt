@@ -1,13 +1,13 @@
 // `compact`: the type of a root is copied into an arena that has no other node.
-use arena::added::Interned;
-use arena::sound::Judged;
-use arena::sound::judge;
 use copying::compact_inner;
+use node_store::added::Interned;
 use recursion::take_back;
+use soundness::Judged;
+use soundness::judge;
 use types::Counters;
 use types::arc_ty::wide;
 ghost use mathlib.Core.Path.{_≡_};
-ghost use Rattle.arena.specs.Stored.{Lent};
+ghost use Rattle.node_store.specs.Stored.{Lent};
 ghost use Rattle.compact.specs.Compact.{compact-reply, left};
 ghost use Rattle.compact.specs.Cleared.{ClearReady, CompactsCleared, CompactsLent};
 

@@ -5,3 +5,4 @@ pub mod Nodes
 pub mod Copies
 pub mod Counts
 pub mod Running
+pub mod Rooms

@@ -8,9 +8,9 @@ use lib.Seq.{length-take-le}
 use Rattle.types.specs.Node.{below}
 use Rattle.types.specs.declared.Counters.{Counters}
 use Rattle.types.proofs.Sound.{children-below}
-use Rattle.arena.specs.Stored.{InRange}
-use Rattle.arena.specs.declared.added.Interned.{Interned}
-use Rattle.arena.specs.declared.added.Interned.the-variants as interned
+use Rattle.node_store.specs.Stored.{InRange}
+use Rattle.node_store.specs.declared.added.Interned.{Interned}
+use Rattle.node_store.specs.declared.added.Interned.the-variants as interned
 use Rattle.recursion.specs.Work.{Ready, Does, EachReady, DoesEach}
 use Rattle.recursion.specs.declared.Run.{Run}
 use Rattle.recursion.specs.declared.Run.the-variants as run

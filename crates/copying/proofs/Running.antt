@@ -15,8 +15,8 @@ use Rattle.types.proofs.Tests.{same-truth}
 use Rattle.types.proofs.Lists.{below-by}
 use Rattle.types.proofs.Growth.{ext-trans}
 use Rattle.types.proofs.Sound.{at-well, child-lower}
-use Rattle.arena.specs.Intern.{intern}
-use Rattle.arena.proofs.Interning.{Done, stored, added, done}
+use Rattle.node_store.specs.Intern.{intern}
+use Rattle.node_store.proofs.Interning.{Done, stored, added, done}
 use Rattle.bits.proofs.Sets.{count-same}
 use Rattle.walks.specs.Reach.{reaches, reach-count}
 use Rattle.walks.proofs.Reaching.{reaches-place, place-reaches}
@@ -143,6 +143,13 @@ module _ (words starts table : ℕ) (few : starts ≤ 4096) (u : Arena) (g : sou
     ran : Ran table u [] root m b
     unfolding sound
     ran = runs (suc root) root (omega arith) l [] m b refl e
+
+    -- the target is sound and has the copy
+    pub compact-sound : sound table b ≡ true
+    compact-sound = ran .good
+
+    pub compact-inside : m < length b
+    compact-inside = copy-inside (ran .is)
 
     -- the type and its copy have the same value, whatever is read off the tags: so they unfold to the same tree
     pub compact-fold : {Y : Type 0} (value : Tag → List Y → Y) → fold value b m ≡ fold value u root

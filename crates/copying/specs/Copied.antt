@@ -9,8 +9,8 @@ use Rattle.types.specs.Arena.{Arena, at}
 use Rattle.types.specs.Memory.{Holds}
 use Rattle.types.specs.Reply.{reply-of}
 use Rattle.types.specs.declared.Counters.{Counters}
-use Rattle.arena.specs.Intern.{intern, left}
-use Rattle.arena.specs.declared.added.Interned.{Interned}
+use Rattle.node_store.specs.Intern.{intern, left}
+use Rattle.node_store.specs.declared.added.Interned.{Interned}
 
 -- the source is the arena that this memory holds, under the table of the target; what the target holds is free
 pub record Source (w s : List ℕ) (c : Counters) (table : ℕ) (u a : Arena) : Type 0 where

@@ -1,8 +1,8 @@
 // `compact_inner` and its uncached half: a type of one arena, which is only read, is copied into another. A node is copied
 // after its children. A refusal is passed up, and the memory of the target then begins with the arena as it was.
-use arena::added::Interned;
-use arena::added::intern_node;
-use arena::stored::node_at;
+use node_store::added::Interned;
+use node_store::added::intern_node;
+use node_store::stored::node_at;
 use rebuilding::children::all_children;
 use rebuilding::node::exchange;
 use recursion::Run;

@@ -17,7 +17,7 @@ use Rattle.types.proofs.Faults.{children-encode}
 use Rattle.types.proofs.Sound.{at-formed, fold-at}
 use Rattle.types.proofs.Memories.{unique}
 use Rattle.names.specs.Table.{Name, split}
-use Rattle.arena.specs.Stored.{InRange, NodeAt}
+use Rattle.node_store.specs.Stored.{InRange, NodeAt}
 use Rattle.text_writing.specs.Text.{when, beginning, parens, before, ending, shown, Printed, child-text, child-texts, node-text, type-text}
 use Rattle.text_writing.specs.Writes.{Writes, IsFormed}
 use Rattle.text_writing.specs.Children.{ChildOf, encloses, IsChild, Opens, Closes}

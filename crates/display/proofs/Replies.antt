@@ -13,10 +13,10 @@ use Rattle.types.specs.Arena.{Arena}
 use Rattle.types.specs.declared.Counters.{Counters}
 use Rattle.types.proofs.Memories.{unique}
 use Rattle.names.specs.Table.{split}
-use Rattle.arena.specs.Sound.{lent-reply, judged-out}
-use Rattle.arena.specs.declared.sound.Judged.{Judged}
-use Rattle.arena.specs.declared.sound.Judged.the-variants as verdict
-use Rattle.arena.proofs.Verdicts.{lent-known}
+use Rattle.soundness.specs.Sound.{lent-reply, judged-out}
+use Rattle.soundness.specs.declared.Judged.{Judged}
+use Rattle.soundness.specs.declared.Judged.the-variants as verdict
+use Rattle.soundness.proofs.Verdicts.{lent-known}
 use Rattle.walks.specs.Asked.{asking, Says, Answers}
 use Rattle.walks.proofs.Asking.{root-out, root-in, ask-refused, ask-done}
 use Rattle.text_writing.specs.Text.{type-text}

@@ -5,7 +5,7 @@ use mathlib.Core.Bool.{true, false}
 use mathlib.Core.List.{List, [], _∷_}
 use lib.ListN.{length}
 use Rattle.types.specs.Bytes.{bytes}
-use Rattle.types.specs.Primitive.{null, number}
+use Rattle.primitive.specs.Primitive.{null, number}
 use Rattle.types.specs.Node.{positive, negative, field, primitive, list, lambda, attrset, named, members, bound, var, neg, form, node}
 use Rattle.types.specs.Arena.{Arena}
 use Rattle.names.specs.Table.{Name}

@@ -1,8 +1,8 @@
 // The text of a type in lent bytes. `display` is the call open to a host; `display_in` is for callers that know the arena
 // sound and its root there. specs/Reply.antt says what they answer and leave.
-use arena::sound::Judged;
-use arena::sound::judge;
-use arena::stored::node_at;
+use node_store::stored::node_at;
+use soundness::Judged;
+use soundness::judge;
 use text_writing::children::child_of;
 use text_writing::children::close_child;
 use text_writing::children::open_child;
@@ -14,7 +14,7 @@ use types::arc_ty::wide;
 ghost use mathlib.Core.Path.{_≡_};
 ghost use Prim.Native.Nat.{min};
 ghost use lib.ListN.{length, replicate};
-ghost use Rattle.arena.specs.Stored.{Lent, InRange};
+ghost use Rattle.node_store.specs.Stored.{Lent, InRange};
 ghost use Rattle.display.specs.Prints.{Prints};
 ghost use Rattle.display.specs.Reply.{display-reply, left, Displays, DisplaysRoot};
 
@@ -38,7 +38,7 @@ fn limit_of(lent: usize) -> usize
 }
 
 // Writes the text of node n behind the first `count` bytes. A text can have exponentially many bytes: once it doesn't fit,
-// no child is visited any more.
+// a call returns at once.
 fn write_ty(
     table: &[u8],
     words: &[u32],

@@ -12,7 +12,7 @@ use lib.Dec.{eqb}
 use borrow.Author.Tests.{eqb-true, eqb-false, not-true, not-false}
 use Rattle.types.specs.Fault.{children-in}
 use Rattle.types.proofs.Tests.{true-false}
-use Rattle.walks.proofs.Offspring.{child-small}
+use Rattle.node_reading.proofs.Offspring.{child-small}
 use Rattle.equal.specs.Pairs.{Pair, Fit, Gives, Beside, Level, GivesAll}
 
 -- ---- one pair

@@ -15,7 +15,7 @@ use Rattle.types.proofs.Tests.{true-false}
 use Rattle.types.proofs.Nodes.{length-encode}
 use Rattle.types.proofs.Faults.{children-encode}
 use Rattle.types.proofs.Sound.{at-formed, child-lower}
-use Rattle.arena.specs.Stored.{Lent, InRange, NodeAt}
+use Rattle.node_store.specs.Stored.{Lent, InRange, NodeAt}
 use Rattle.equal.specs.Equal.{tree}
 use Rattle.equal.specs.Data.{SameData}
 use Rattle.equal.specs.Pairs.{Pair, Beside, Clash, Level, GivesAll, Side, Matched, Agreeing, Below, Visit, Visiting, Visited}

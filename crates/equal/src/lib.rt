@@ -3,10 +3,10 @@
 mod node_data;
 mod pairs;
 
-use arena::sound::Judged;
-use arena::sound::judge;
 use pairs::agree;
 use questions::vars::Asked;
+use soundness::Judged;
+use soundness::judge;
 use types::Counters;
 use types::arc_ty::wide;
 ghost use mathlib.Core.Path.{_≡_};

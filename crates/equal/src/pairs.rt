@@ -2,11 +2,11 @@
 // left has at most one partner in the right. Children have lower numbers, so one loop from the left root down meets each node
 // after all that lead to it, and every word of the left arena at most once.
 use crate::node_data::same_data;
-use arena::stored::node_at;
+use node_reading::children::child_at;
+use node_reading::children::child_count;
+use node_store::stored::node_at;
 use types::Counters;
 use types::arc_ty::wide;
-use walks::children::child_at;
-use walks::children::child_count;
 ghost use Prim.Native.Nat.{_<_};
 ghost use mathlib.Core.Path.{_≡_};
 ghost use lib.ListN.{getD};

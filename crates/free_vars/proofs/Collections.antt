@@ -19,7 +19,7 @@ use Rattle.types.proofs.Sound.{at-formed, child-lower}
 use Rattle.types.proofs.Memories.{unique}
 use Rattle.types.proofs.Addresses.{start-room}
 use Rattle.bits.specs.Bits.{has, Row, Put}
-use Rattle.arena.specs.Stored.{InRange, NodeAt}
+use Rattle.node_store.specs.Stored.{InRange, NodeAt}
 use Rattle.free_vars.specs.FreeVars.{occurrences, add-all}
 use Rattle.free_vars.specs.Collect.{VarNode, Listing, VarRoom, AddsVar, Collecting, Collects}
 use Rattle.free_vars.proofs.FirstCopies.{add-has, add-within, add-append}

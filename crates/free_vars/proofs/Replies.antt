@@ -9,11 +9,11 @@ use Rattle.types.specs.declared.Counters.{Counters}
 use Rattle.types.proofs.Tests.{true-false}
 use Rattle.types.proofs.Memories.{unique}
 use Rattle.bits.proofs.Sets.{has-none}
-use Rattle.arena.specs.Stored.{InRange}
-use Rattle.arena.specs.Sound.{lent-reply, judged-out}
-use Rattle.arena.specs.declared.sound.Judged.{Judged}
-use Rattle.arena.specs.declared.sound.Judged.the-variants as verdict
-use Rattle.arena.proofs.Verdicts.{lent-known}
+use Rattle.node_store.specs.Stored.{InRange}
+use Rattle.soundness.specs.Sound.{lent-reply, judged-out}
+use Rattle.soundness.specs.declared.Judged.{Judged}
+use Rattle.soundness.specs.declared.Judged.the-variants as verdict
+use Rattle.soundness.proofs.Verdicts.{lent-known}
 use Rattle.walks.specs.Asked.{asking, ask-reply, Says, Answers}
 use Rattle.walks.proofs.Asking.{root-out, root-in, ask-refused, ask-done}
 use Rattle.free_vars.specs.FreeVars.{contains, free-list, answered, AnswersIn}

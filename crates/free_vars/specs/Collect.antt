@@ -9,7 +9,7 @@ use Rattle.types.specs.Arena.{Arena, at}
 use Rattle.types.specs.Memory.{padded, Holds}
 use Rattle.types.specs.declared.Counters.{Counters}
 use Rattle.bits.specs.Bits.{has, Row, Put}
-use Rattle.arena.specs.Stored.{Lent}
+use Rattle.node_store.specs.Stored.{Lent}
 use Rattle.free_vars.specs.FreeVars.{occurrences, contains, add-all}
 
 -- is no variable there twice?

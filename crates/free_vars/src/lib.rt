@@ -1,17 +1,17 @@
 // The variables of a type, in the order in which a walk first meets them. Memory is only read.
-use arena::sound::Judged;
-use arena::sound::judge;
-use arena::stored::node_at;
 use bits::put;
 use bits::test;
+use node_reading::children::child_at;
+use node_reading::children::child_count;
+use node_store::stored::node_at;
+use soundness::Judged;
+use soundness::judge;
 use types::Counters;
 use types::arc_ty::Head;
 use types::arc_ty::wide;
-use walks::children::child_at;
-use walks::children::child_count;
 ghost use mathlib.Core.Path.{_≡_};
 ghost use Rattle.types.specs.Out.{refuse};
-ghost use Rattle.arena.specs.Stored.{Lent, InRange};
+ghost use Rattle.node_store.specs.Stored.{Lent, InRange};
 ghost use Rattle.walks.specs.Asked.{ask-reply, Says};
 ghost use Rattle.free_vars.specs.FreeVars.{free-list, answered, AnswersIn};
 ghost use Rattle.free_vars.specs.Collect.{VarRoom, AddsVar, Collecting, Collects};

@@ -5,9 +5,10 @@ use Prim.Native.Nat.{ℕ}
 use Rattle.types.specs.Out.{refuse}
 use Rattle.types.specs.Reply.{Reply, reply}
 use Rattle.types.specs.declared.Counters.{Counters}
-use Rattle.arena.specs.Intern.{intern-reply, left}
-use Rattle.arena.specs.declared.added.Interned.{Interned}
-use Rattle.arena.specs.declared.added.Interned.the-variants as interned
+use Rattle.node_store.specs.Intern.{left}
+use Rattle.arena.specs.Intern.{intern-reply}
+use Rattle.node_store.specs.declared.added.Interned.{Interned}
+use Rattle.node_store.specs.declared.added.Interned.the-variants as interned
 use Rattle.arena.proofs.Answers.{answered, refused-unchanged}
 use Rattle.lent_counters.specs.Lent.{stored, stored-out, counters-left}
 use Rattle.lent_counters.specs.declared.Stored.{Stored}

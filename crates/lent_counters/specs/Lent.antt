@@ -2,8 +2,8 @@
 use Prim.Native.Nat.{ℕ}
 use Rattle.types.specs.Out.{Out, ok, refuse}
 use Rattle.types.specs.declared.Counters.{Counters}
-use Rattle.arena.specs.declared.added.Interned.{Interned}
-use Rattle.arena.specs.declared.added.Interned.the-variants as interned
+use Rattle.node_store.specs.declared.added.Interned.{Interned}
+use Rattle.node_store.specs.declared.added.Interned.the-variants as interned
 use Rattle.lent_counters.specs.declared.Stored.{Stored}
 use Rattle.lent_counters.specs.declared.Stored.the-variants as store
 

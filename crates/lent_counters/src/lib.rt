@@ -1,7 +1,7 @@
 // `intern` for a host that keeps one arena and lends its counters to be updated: as a struct, or as two numbers. What both
 // answer and leave is what `arena` says of `intern`.
-use arena::added::Interned;
 use arena::intern;
+use node_store::added::Interned;
 use types::Counters;
 ghost use mathlib.Core.Path.{_≡_};
 ghost use Rattle.types.specs.Reply.{reply};

@@ -15,8 +15,8 @@ use Rattle.types.specs.Places.{opposite}
 use Rattle.types.specs.declared.Counters.{Counters}
 use Rattle.types.proofs.KindNumbers.{kind-of-disc}
 use Rattle.types.proofs.Tests.{true-false}
-use Rattle.arena.specs.Stored.{InRange}
-use Rattle.walks.specs.Nodes.{KindAt}
+use Rattle.node_store.specs.Stored.{InRange}
+use Rattle.node_reading.specs.Nodes.{KindAt}
 use Rattle.simplification.specs.Pass.{list-kind}
 use Rattle.simplification.proofs.Answers.{or-true}
 use Rattle.member_lists.specs.Members.{NeutralOf, DecidingOf}

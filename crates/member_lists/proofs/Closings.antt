@@ -18,10 +18,10 @@ use Rattle.types.specs.declared.Counters.{Counters}
 use Rattle.types.proofs.Lists.{below-at}
 use Rattle.types.proofs.Nodes.{nil, formed-parts}
 use Rattle.types.proofs.Sound.{at-formed}
-use Rattle.arena.specs.Intern.{intern, left}
-use Rattle.arena.specs.declared.added.Interned.{Interned}
-use Rattle.arena.specs.declared.added.Interned.the-variants as interned
-use Rattle.arena.proofs.Additions.{finished}
+use Rattle.node_store.specs.Intern.{intern, left}
+use Rattle.node_store.specs.declared.added.Interned.{Interned}
+use Rattle.node_store.specs.declared.added.Interned.the-variants as interned
+use Rattle.node_store.proofs.Additions.{finished}
 use Rattle.recursion.specs.Jobs.{Job}
 use Rattle.recursion.proofs.Interning.{At, node-is, intern-there}
 use Rattle.recursion.proofs.Members.{each-member, member-below}

@@ -13,8 +13,8 @@ use Rattle.types.specs.Memory.{Holds}
 use Rattle.types.specs.declared.Counters.{Counters}
 use Rattle.types.proofs.Tests.{not-true}
 use Rattle.types.proofs.Lists.{below-at}
-use Rattle.arena.specs.Stored.{InRange}
-use Rattle.walks.specs.Nodes.{KindAt}
+use Rattle.node_store.specs.Stored.{InRange}
+use Rattle.node_reading.specs.Nodes.{KindAt}
 use Rattle.recursion.proofs.Members.{index-of, member-at}
 use Rattle.simplification.specs.Pass.{is-decided}
 use Rattle.simplification.proofs.Members.{decided-by}

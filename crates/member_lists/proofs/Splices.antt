@@ -14,8 +14,8 @@ use Rattle.types.specs.declared.Counters.{Counters}
 use Rattle.types.proofs.Lists.{below-at}
 use Rattle.types.proofs.Faults.{children-encode}
 use Rattle.types.proofs.Sound.{at-formed}
-use Rattle.arena.specs.Stored.{NodeAt}
-use Rattle.walks.specs.Nodes.{KindAt}
+use Rattle.node_store.specs.Stored.{NodeAt}
+use Rattle.node_reading.specs.Nodes.{KindAt}
 use Rattle.simplification.specs.Pass.{splice}
 use Rattle.simplification.proofs.Answers.{same-tag-if, same-tag-not}
 use Rattle.member_lists.specs.Members.{NeutralOf, Grows, Gathering, Splicing, Flattening, Flattens}

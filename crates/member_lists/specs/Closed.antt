@@ -11,9 +11,9 @@ use Rattle.types.specs.Arena.{Arena}
 use Rattle.types.specs.Memory.{Holds}
 use Rattle.types.specs.Reply.{reply-of}
 use Rattle.types.specs.declared.Counters.{Counters}
-use Rattle.arena.specs.Stored.{Lent}
-use Rattle.arena.specs.Intern.{left}
-use Rattle.arena.specs.declared.added.Interned.{Interned}
+use Rattle.node_store.specs.Stored.{Lent}
+use Rattle.node_store.specs.Intern.{left}
+use Rattle.node_store.specs.declared.added.Interned.{Interned}
 use Rattle.recursion.specs.Jobs.{Job}
 use Rattle.simplification.specs.Pass.{gather}
 use Rattle.member_lists.specs.declared.Closed.{Closed}

@@ -12,9 +12,9 @@ use Rattle.types.specs.Places.{opposite}
 use Rattle.types.specs.Memory.{Holds}
 use Rattle.types.specs.Reply.{reply-of}
 use Rattle.types.specs.declared.Counters.{Counters}
-use Rattle.arena.specs.Stored.{Lent, InRange}
-use Rattle.arena.specs.Intern.{intern, left}
-use Rattle.arena.specs.declared.added.Interned.{Interned}
+use Rattle.node_store.specs.Stored.{Lent, InRange}
+use Rattle.node_store.specs.Intern.{intern, left}
+use Rattle.node_store.specs.declared.added.Interned.{Interned}
 use Rattle.recursion.specs.Jobs.{Job}
 use Rattle.simplification.specs.Pass.{is-decided, splice, first-copies, member-list, close}
 use Rattle.member_lists.specs.Closed.{ClosesTo}

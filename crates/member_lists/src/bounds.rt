@@ -1,10 +1,10 @@
 // The kind of a member, and the kinds of the two bounds of a kind of list.
+use node_reading::nodes::kind_at;
 use types::Counters;
 use types::arc_ty::Head;
 use types::arc_ty::wide;
-use walks::nodes::kind_at;
-ghost use Rattle.arena.specs.Stored.{InRange};
-ghost use Rattle.walks.specs.Nodes.{KindAt};
+ghost use Rattle.node_store.specs.Stored.{InRange};
+ghost use Rattle.node_reading.specs.Nodes.{KindAt};
 ghost use Rattle.member_lists.specs.Members.{NeutralOf, DecidingOf};
 
 // The kind of the member n.

@@ -1,11 +1,11 @@
 // A member list as it grows: its items are lent, its length goes in and comes back.
 use crate::bounds::kind_of;
 use crate::bounds::neutral;
-use arena::stored::node_at;
+use node_reading::children::child_at;
+use node_reading::children::child_count;
+use node_store::stored::node_at;
 use types::Counters;
 use types::arc_ty::wide;
-use walks::children::child_at;
-use walks::children::child_count;
 ghost use mathlib.Core.Path.{_≡_};
 ghost use mathlib.Core.List.{[], _∷_};
 ghost use lib.ListN.{take};

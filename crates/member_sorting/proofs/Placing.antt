@@ -10,11 +10,12 @@ use lib.Seq.{take-suc, drop-cons}
 use Rattle.types.specs.Arena.{Arena}
 use Rattle.types.specs.Memory.{Holds}
 use Rattle.types.specs.declared.Counters.{Counters}
+use Rattle.types.specs.Order.{is-less}
 use Rattle.types.specs.declared.Ordering.{Ordering}
 use Rattle.types.specs.declared.Ordering.the-variants.{Less, Equal, Greater}
 use Rattle.types.proofs.Lists.{below-at}
-use Rattle.arena.specs.Stored.{InRange, Ordered}
-use Rattle.member_sorting.specs.Sort.{is-less, before, insert}
+use Rattle.node_store.specs.Stored.{InRange, Ordered}
+use Rattle.member_sorting.specs.Sort.{before, insert}
 use Rattle.member_sorting.specs.Sorting.{ComesBefore, Placing, PlaceOf}
 
 -- ---- which of two comes first

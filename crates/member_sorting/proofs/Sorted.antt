@@ -10,7 +10,7 @@ use lib.ListN.{length}
 use borrow.Author.Tests.{lt-ltb}
 use Rattle.types.specs.Node.{below}
 use Rattle.types.specs.Arena.{Arena, at, Ext}
-use Rattle.types.specs.Order.{reversed}
+use Rattle.types.specs.Order.{is-less, reversed}
 use Rattle.types.specs.declared.Ordering.{Ordering}
 use Rattle.types.specs.declared.Ordering.the-variants.{Greater}
 use Rattle.types.proofs.Lists.{below-cons}
@@ -18,7 +18,7 @@ use Rattle.types.proofs.Growth.{ext-at}
 use Rattle.types.proofs.Tests.{true-false}
 use Rattle.node_order.specs.NodeOrder.{node-order}
 use Rattle.node_order.proofs.NodeOrders.{node-order-orders}
-use Rattle.member_sorting.specs.Sort.{is-less, before, insert, sort-onto, sort}
+use Rattle.member_sorting.specs.Sort.{before, insert, sort-onto, sort}
 
 -- ---- an arrangement
 -- ys is xs with m somewhere

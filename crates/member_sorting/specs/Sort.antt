@@ -2,15 +2,9 @@
 use Prim.Native.Nat.{ℕ}
 use mathlib.Core.Bool.{Bool, true, false}
 use mathlib.Core.List.{List, [], _∷_}
+use Rattle.types.specs.Order.{is-less}
 use Rattle.types.specs.Arena.{Arena, at}
-use Rattle.types.specs.declared.Ordering.{Ordering}
-use Rattle.types.specs.declared.Ordering.the-variants.{Less, Equal, Greater}
 use Rattle.node_order.specs.NodeOrder.{node-order}
-
-abbrev pub is-less : Ordering → Bool
-is-less Less = true
-is-less Equal = false
-is-less Greater = false
 
 -- does node m come before node n?
 unfoldable pub before : Arena → ℕ → ℕ → Bool

@@ -8,7 +8,7 @@ use Rattle.types.specs.Node.{below}
 use Rattle.types.specs.Arena.{Arena}
 use Rattle.types.specs.Memory.{Holds}
 use Rattle.types.specs.declared.Counters.{Counters}
-use Rattle.arena.specs.Stored.{Lent, InRange}
+use Rattle.node_store.specs.Stored.{Lent, InRange}
 use Rattle.member_sorting.specs.Sort.{before, insert, sort}
 
 -- does node m come before node n?

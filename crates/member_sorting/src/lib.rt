@@ -1,9 +1,9 @@
 // Members sorted by node order: each is inserted among those before it.
-use arena::stored::order_of;
+use node_store::stored::order_of;
 use types::Counters;
 use types::Ordering;
 use types::arc_ty::wide;
-ghost use Rattle.arena.specs.Stored.{InRange};
+ghost use Rattle.node_store.specs.Stored.{InRange};
 ghost use Rattle.member_sorting.specs.Sorting.{ComesBefore, Placing, PlaceOf, Gap, OpensGap, Inserting, Inserts, Sorting, Sorts};
 
 // Whether node m comes before node n.

@@ -1,8 +1,8 @@
 // `simplify` where a list of lists has 64 different members or more: which of 7 and 8 is met, and what comes before both. It
 // prints a line a call, each type in each room. What it must print was made by the Rust
 // (compare/reference/src/bin/members_limit.rs).
-use arena::added::Interned;
 use arena::intern;
+use node_store::added::Interned;
 use simplify::Simplified;
 use simplify::simplify;
 use types::Counters;

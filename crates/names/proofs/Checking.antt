@@ -9,7 +9,8 @@ use lib.Seq.{take-at, drop-at}
 use borrow.Author.Tests.{not-true, not-false}
 use Rattle.types.specs.Out.{Out, ok, refuse, required}
 use Rattle.types.proofs.Tests.{true-false, and-true, both}
-use Rattle.names.specs.Table.{Name, table, name-order, is-less, rising, good-name, all-good, IsTable}
+use Rattle.types.specs.Order.{is-less}
+use Rattle.names.specs.Table.{Name, table, name-order, rising, good-name, all-good, IsTable}
 use Rattle.names.specs.Steps.{name-end, may-follow}
 use Rattle.names.specs.Reply.{table-reply}
 use Rattle.names.proofs.Tables.{is-names-of, no-names-of}

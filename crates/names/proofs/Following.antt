@@ -5,10 +5,11 @@ use mathlib.Core.Bool.{Bool, true, false, not, _&&_}
 use lib.ListN.{length}
 use lib.Dec.{eqb}
 use borrow.Author.Tests.{eq-eqb, ne-eqb, eqb-true, not-true, not-false}
+use Rattle.types.specs.Order.{is-less}
 use Rattle.types.specs.declared.Ordering.{Ordering}
 use Rattle.types.specs.declared.Ordering.the-variants.{Less, Equal, Greater}
 use Rattle.types.proofs.Tests.{and-true, both}
-use Rattle.names.specs.Table.{Name, name-order, is-less, good-name}
+use Rattle.names.specs.Table.{Name, name-order, good-name}
 use Rattle.names.specs.Steps.{may-follow}
 
 module _ (last n : Name) (b : ℕ) {x : ℕ} (e : x ≡ b) where

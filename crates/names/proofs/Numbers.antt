@@ -7,12 +7,12 @@ use mathlib.Core.Option.{some}
 use native.Mathlib.Omega.{arith}
 use native.Mathlib.Nat.{le-of-suc-le-suc}
 use lib.ListN.{length, getD, List·getD-eq-default}
-use Rattle.types.specs.Order.{TotalOrder, order, reversed}
+use Rattle.types.specs.Order.{TotalOrder, order, is-less, reversed}
 use Rattle.types.specs.declared.Ordering.{Ordering}
 use Rattle.types.specs.declared.Ordering.the-variants.{Less, Equal, Greater}
 use Rattle.types.proofs.Tests.{true-false, and-true}
 use Rattle.types.proofs.Orders.{order-total, order-less, order-equal, order-greater, compared, lexicographic-total}
-use Rattle.names.specs.Table.{Name, name-order, is-less, rising, good-name, all-good, names-of, name-text}
+use Rattle.names.specs.Table.{Name, name-order, rising, good-name, all-good, names-of, name-text}
 use Rattle.names.proofs.Tables.{names-of-is, name-text-is}
 use Rattle.names.proofs.Rules.{Rules, good-rules, GoodName, good-name-is, rising-rest}
 

@@ -7,7 +7,8 @@ use lib.ListN.{length}
 use lib.Dec.{leb}
 use borrow.Author.Tests.{leb-true, le-leb}
 use Rattle.types.proofs.Tests.{and-true, both}
-use Rattle.names.specs.Table.{Name, name-order, is-less, rising, all-printable, good-name, all-good, good-names}
+use Rattle.types.specs.Order.{is-less}
+use Rattle.names.specs.Table.{Name, name-order, rising, all-printable, good-name, all-good, good-names}
 
 pub record Rules (ns : List Name) : Type 0 where
   pub few : length ns ≤ 256

@@ -4,7 +4,8 @@ use mathlib.Core.Bool.{Bool, _&&_}
 use mathlib.Core.List.{List}
 use lib.ListN.{length, getD}
 use lib.Dec.{eqb}
-use Rattle.names.specs.Table.{Name, name-order, is-less, good-name}
+use Rattle.types.specs.Order.{is-less}
+use Rattle.names.specs.Table.{Name, name-order, good-name}
 
 -- where the name ends whose length byte stands at this place, at the latest with the bytes
 unfoldable pub name-end : List ℕ → ℕ → ℕ

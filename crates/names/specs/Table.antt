@@ -7,9 +7,8 @@ use mathlib.Core.Option.{Option, none, some}
 use lib.ListN.{length, getD, take, drop}
 use lib.Dec.{leb}
 use Rattle.types.specs.Same.{same-numbers}
-use Rattle.types.specs.Order.{order, lexicographic}
+use Rattle.types.specs.Order.{order, lexicographic, is-less}
 use Rattle.types.specs.declared.Ordering.{Ordering}
-use Rattle.types.specs.declared.Ordering.the-variants.{Less, Equal, Greater}
 
 -- a name is its bytes
 abbrev pub Name : Type 0
@@ -24,12 +23,6 @@ table (n ∷ ns) = length n ∷ n ++ table ns
 unfoldable pub name-order : Name → Name → Ordering
 unfolding lexicographic order
 name-order = lexicographic order
-
--- does the answer say that the first comes before the second?
-abbrev pub is-less : Ordering → Bool
-is-less Less = true
-is-less Equal = false
-is-less Greater = false
 
 -- does each name come before the next?
 unfoldable pub rising : List Name → Bool

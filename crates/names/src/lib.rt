@@ -31,7 +31,8 @@ pub fn compare(a: &[u8], b: &[u8]) -> Ordering
     Ordering::Equal
 }
 
-fn wide(x: u8) -> usize
+// A byte as a count.
+pub fn wide(x: u8) -> usize
     ensures { λ r. ⌜ r ≡ x ⌝ }
 {
     x as usize

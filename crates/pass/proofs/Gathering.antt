@@ -18,11 +18,11 @@ use Rattle.types.proofs.Sound.{at-formed, child-lower, children-below}
 use Rattle.types.proofs.Lists.{below-at}
 use Rattle.types.proofs.Faults.{children-encode}
 use Rattle.types.proofs.Memories.{unique}
-use Rattle.arena.specs.Stored.{InRange, NodeAt}
-use Rattle.arena.specs.Intern.{left}
-use Rattle.arena.specs.declared.added.Interned.{Interned}
-use Rattle.arena.specs.declared.added.Interned.the-variants as interned
-use Rattle.arena.proofs.Interning.{done, done-ext}
+use Rattle.node_store.specs.Stored.{InRange, NodeAt}
+use Rattle.node_store.specs.Intern.{left}
+use Rattle.node_store.specs.declared.added.Interned.{Interned}
+use Rattle.node_store.specs.declared.added.Interned.the-variants as interned
+use Rattle.node_store.proofs.Interning.{done, done-ext}
 use Rattle.recursion.specs.Jobs.{Job, each}
 use Rattle.recursion.proofs.Answers.{ok-same, bind-parts}
 use Rattle.recursion.proofs.Members.{index-of, member-below}

@@ -12,9 +12,9 @@ use Rattle.types.specs.Memory.{words-of, starts-of, counters-of, Holds}
 use Rattle.types.specs.Reply.{reply-of}
 use Rattle.types.specs.declared.Counters.{Counters}
 use Rattle.types.proofs.Growth.{ext-length, ext-trans}
-use Rattle.arena.specs.Intern.{left}
-use Rattle.arena.specs.declared.added.Interned.{Interned}
-use Rattle.arena.specs.declared.added.Interned.the-variants as interned
+use Rattle.node_store.specs.Intern.{left}
+use Rattle.node_store.specs.declared.added.Interned.{Interned}
+use Rattle.node_store.specs.declared.added.Interned.the-variants as interned
 use Rattle.recursion.specs.Work.{Stands}
 use Rattle.recursion.proofs.Leading.{stands-ext, holds-stands, Stopped}
 use Rattle.simplification.proofs.Caching.{cache-law}

@@ -16,12 +16,12 @@ use Rattle.types.specs.Memory.{Holds}
 use Rattle.types.specs.declared.Counters.{Counters}
 use Rattle.types.proofs.Growth.{ext-length, ext-at}
 use Rattle.types.proofs.Sound.{children-below}
-use Rattle.arena.specs.Stored.{InRange}
-use Rattle.arena.specs.Intern.{intern}
-use Rattle.arena.specs.declared.added.Interned.{Interned}
-use Rattle.arena.specs.declared.added.Interned.the-variants as interned
-use Rattle.arena.proofs.Interning.{done, done-ext}
-use Rattle.walks.specs.Nodes.{KindAt}
+use Rattle.node_store.specs.Stored.{InRange}
+use Rattle.node_store.specs.Intern.{intern}
+use Rattle.node_store.specs.declared.added.Interned.{Interned}
+use Rattle.node_store.specs.declared.added.Interned.the-variants as interned
+use Rattle.node_store.proofs.Interning.{done, done-ext}
+use Rattle.node_reading.specs.Nodes.{KindAt}
 use Rattle.recursion.specs.Jobs.{Job, each, rebuild}
 use Rattle.simplification.specs.Pass.{list-kind, apply}
 use Rattle.simplification.proofs.Applying.{apply-at, step-other}

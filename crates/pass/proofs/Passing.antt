@@ -12,8 +12,8 @@ use Rattle.types.specs.Memory.{Holds}
 use Rattle.types.specs.declared.Counters.{Counters}
 use Rattle.types.proofs.Tests.{true-false, same-truth}
 use Rattle.bits.specs.Bits.{has}
-use Rattle.arena.specs.Stored.{InRange}
-use Rattle.arena.specs.declared.added.Interned.{Interned}
+use Rattle.node_store.specs.Stored.{InRange}
+use Rattle.node_store.specs.declared.added.Interned.{Interned}
 use Rattle.walks.specs.Removable.{Removable, OneSigned, OneSignedIn}
 use Rattle.walks.proofs.OneSigns.{one-signed-removable}
 use Rattle.recursion.specs.Hosted.{LeadsOnce, done, stop}

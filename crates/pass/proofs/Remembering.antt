@@ -12,8 +12,8 @@ use Rattle.types.specs.Arena.{Arena, here}
 use Rattle.types.specs.declared.Counters.{Counters}
 use Rattle.types.proofs.Growth.{ext-length}
 use Rattle.types.proofs.Addresses.{start-room}
-use Rattle.arena.specs.declared.added.Interned.{Interned}
-use Rattle.arena.specs.declared.added.Interned.the-variants as interned
+use Rattle.node_store.specs.declared.added.Interned.{Interned}
+use Rattle.node_store.specs.declared.added.Interned.the-variants as interned
 use Rattle.simplification.specs.Pass.{apply}
 use Rattle.simplification.proofs.Caching.{cache-law}
 use Rattle.rebuilding.specs.Children.{setting}

@@ -13,8 +13,8 @@ use Rattle.types.specs.Memory.{Holds}
 use Rattle.types.specs.declared.Counters.{Counters}
 use Rattle.types.proofs.Growth.{ext-length, ext-trans, ext-at}
 use Rattle.types.proofs.Lists.{below-at, below-more}
-use Rattle.arena.specs.declared.added.Interned.{Interned}
-use Rattle.arena.specs.declared.added.Interned.the-variants as interned
+use Rattle.node_store.specs.declared.added.Interned.{Interned}
+use Rattle.node_store.specs.declared.added.Interned.the-variants as interned
 use Rattle.recursion.specs.Jobs.{Job, each}
 use Rattle.simplification.specs.Pass.{apply}
 use Rattle.simplification.proofs.Applying.{apply-kept}

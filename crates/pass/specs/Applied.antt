@@ -10,9 +10,9 @@ use Rattle.types.specs.Node.{Polarity, members, tag, kind, children, below}
 use Rattle.types.specs.Arena.{Arena, at, Ext}
 use Rattle.types.specs.Memory.{Holds}
 use Rattle.types.specs.declared.Counters.{Counters}
-use Rattle.arena.specs.Stored.{Lent}
-use Rattle.arena.specs.declared.added.Interned.{Interned}
-use Rattle.arena.specs.declared.added.Interned.the-variants as interned
+use Rattle.node_store.specs.Stored.{Lent}
+use Rattle.node_store.specs.declared.added.Interned.{Interned}
+use Rattle.node_store.specs.declared.added.Interned.the-variants as interned
 use Rattle.recursion.specs.Jobs.{each}
 use Rattle.recursion.specs.Work.{Stands}
 use Rattle.simplification.specs.Pass.{apply}

@@ -5,8 +5,7 @@ use lib.ListN.{length}
 use Rattle.types.specs.Arena.{Arena}
 use Rattle.types.specs.Memory.{Holds}
 use Rattle.types.specs.declared.Counters.{Counters}
-use Rattle.arena.specs.declared.added.Interned.{Interned}
-use Rattle.arena.specs.declared.added.Interned.the-variants as interned
+use Rattle.node_store.specs.declared.added.Interned.{Interned}
 use Rattle.simplification.specs.Pass.{pass}
 use Rattle.recursion.specs.Hosted.{LeadsOnce}
 

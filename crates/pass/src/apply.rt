@@ -2,18 +2,18 @@
 // away. A refusal is passed up, and memory then begins with the arena as it was.
 use crate::cache::cached;
 use crate::cache::remember;
-use arena::added::Interned;
-use arena::stored::node_at;
 use member_lists::Closed;
 use member_lists::close_list;
+use node_reading::children::child_at;
+use node_reading::nodes::kind_at;
+use node_store::added::Interned;
+use node_store::stored::node_at;
 use rebuilding::children::all_children;
 use rebuilding::children::remaining;
 use rebuilding::node::rebuild;
 use types::Counters;
 use types::arc_ty::Head;
 use types::arc_ty::wide;
-use walks::children::child_at;
-use walks::nodes::kind_at;
 ghost use mathlib.Core.Path.{_≡_};
 ghost use Prim.Native.Nat.{_<_};
 ghost use lib.ListN.{getD};

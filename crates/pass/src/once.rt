@@ -1,10 +1,10 @@
 // One pass over the type of a root.
 use crate::apply::apply_simplification;
-use arena::added::Interned;
+use node_store::added::Interned;
 use types::Counters;
 use types::arc_ty::wide;
 use walks::removable::one_signed;
-ghost use Rattle.arena.specs.Stored.{InRange};
+ghost use Rattle.node_store.specs.Stored.{InRange};
 ghost use Rattle.pass.specs.Once.{SimplifiesOnce};
 
 // What the root becomes, where the variables with places of one sign in its type are removable.

@@ -15,11 +15,11 @@ use Rattle.types.specs.Memory.{Holds}
 use Rattle.types.specs.declared.Counters.{Counters}
 use Rattle.types.proofs.Tests.{not-true}
 use Rattle.types.proofs.Growth.{before, ext-tail, ext-rec, rec-at}
-use Rattle.arena.specs.Stored.{Lent, InRange}
+use Rattle.node_store.specs.Stored.{Lent, InRange}
 use Rattle.walks.specs.Asked.{Says}
-use Rattle.walks.specs.Nodes.{of-kind, KindAt, ParentAt, FirstChild}
+use Rattle.node_reading.specs.Nodes.{of-kind, KindAt, ParentAt, FirstChild}
 use Rattle.questions.specs.Named.{unwrap-named}
-use Rattle.walks.proofs.NodeReads.{first-lower, first-range}
+use Rattle.node_reading.proofs.NodeReads.{first-lower, first-range}
 
 -- ---- one step down
 module _ (table : ℕ) (a : Arena) (n : ℕ) (l : n < length a) where

@@ -22,16 +22,16 @@ use Rattle.types.proofs.Sound.{at-formed, child-lower, at-find}
 use Rattle.types.proofs.Addresses.{start-room}
 use Rattle.bits.specs.Bits.{has, Row, Put}
 use Rattle.bits.proofs.Sets.{has-none}
-use Rattle.arena.specs.Stored.{Lent, InRange}
+use Rattle.node_store.specs.Stored.{Lent, InRange}
 use Rattle.walks.specs.Asked.{Says}
 use Rattle.walks.specs.Reach.{reaches, ReachIn}
 use Rattle.walks.proofs.Reaching.{or-right}
 use Rattle.walks.proofs.Marks.{root-small}
-use Rattle.walks.specs.Nodes.{of-kind, is-var, KindAt, ParentAt, FirstChild}
+use Rattle.node_reading.specs.Nodes.{of-kind, is-var, KindAt, ParentAt, FirstChild}
 use Rattle.questions.specs.Lambdas.{param-of, takes-var, same-var, some-below, shared-in, has-shared-tyvar-across-lambda-params, param-out, taken, passes, ParamAt, ParamRow, Seeing, Shares}
 use Rattle.questions.specs.declared.lambdas.Param.{Param}
 use Rattle.questions.specs.declared.lambdas.Param.the-variants as param
-use Rattle.walks.proofs.NodeReads.{first-there, first-range}
+use Rattle.node_reading.proofs.NodeReads.{first-there, first-range}
 
 -- ---- what one node takes
 module _ {w s : List ℕ} {c : Counters} {n k : ℕ} (R : InRange w s c n) (K : KindAt w s c n k) where

@@ -13,7 +13,7 @@ use Rattle.types.specs.Places.{child-sign, Place, self, down}
 use Rattle.types.proofs.Sound.{child-lower, fold-at}
 use Rattle.walks.specs.Reach.{some-of}
 use Rattle.walks.proofs.Reaching.{some-in, in-some, or-right}
-use Rattle.walks.specs.Nodes.{is-var}
+use Rattle.node_reading.specs.Nodes.{is-var}
 use Rattle.questions.specs.Vars as vars
 use Rattle.questions.specs.Vars.{passed-over, kind-has, has-var, Walk}
 

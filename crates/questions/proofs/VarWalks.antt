@@ -22,13 +22,13 @@ use Rattle.types.proofs.Faults.{children-encode}
 use Rattle.types.proofs.Sound.{at-formed, children-below, map-below, fold-at}
 use Rattle.bits.specs.Bits.{has, Row, Put}
 use Rattle.bits.proofs.Sets.{has-none}
-use Rattle.arena.specs.Stored.{InRange, NodeAt}
+use Rattle.node_store.specs.Stored.{InRange, NodeAt}
 use Rattle.walks.specs.Asked.{Says}
 use Rattle.walks.specs.Reach.{some-of}
-use Rattle.walks.proofs.Offspring.{child-small}
+use Rattle.node_reading.proofs.Offspring.{child-small}
 use Rattle.walks.proofs.Marks.{root-small}
 use Rattle.questions.specs.Vars.{kind-has, has-var, words-have, Learned}
-use Rattle.walks.proofs.NodeReads.{kind-encode}
+use Rattle.node_reading.proofs.NodeReads.{kind-encode}
 
 -- ---- one child after another: the children still to come decide
 pub record Looking (ws met : List ℕ) (from count i : ℕ) : Type 0 where

@@ -14,7 +14,7 @@ use Rattle.types.specs.Memory.{Holds}
 use Rattle.types.specs.declared.Counters.{Counters}
 use Rattle.bits.specs.Bits.{has}
 use Rattle.walks.specs.Reach.{reaches}
-use Rattle.walks.specs.Nodes.{of-kind, is-var}
+use Rattle.node_reading.specs.Nodes.{of-kind, is-var}
 use Rattle.questions.specs.declared.lambdas.Param.{Param}
 use Rattle.questions.specs.declared.lambdas.Param.the-variants as param
 

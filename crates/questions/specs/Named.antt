@@ -6,7 +6,7 @@ use Rattle.types.specs.Out.{Out, ok, refuse}
 use Rattle.types.specs.Kind as kinds
 use Rattle.types.specs.Node.{Node, children}
 use Rattle.types.specs.Arena.{Arena, rec}
-use Rattle.walks.specs.Nodes.{of-kind}
+use Rattle.node_reading.specs.Nodes.{of-kind}
 use Rattle.questions.specs.declared.named.Unwrapped.{Unwrapped}
 use Rattle.questions.specs.declared.named.Unwrapped.the-variants as unwrapped
 

@@ -1,20 +1,20 @@
 // Whether two lambdas of a type take the same variable. A sound arena has one node for a variable, so a set of nodes says which
 // variables were taken.
 use crate::vars::Asked;
-use arena::sound::Judged;
-use arena::sound::judge;
 use bits::put;
 use bits::test;
+use node_reading::nodes::first_child;
+use node_reading::nodes::kind_at;
+use soundness::Judged;
+use soundness::judge;
 use types::Counters;
 use types::arc_ty::Head;
 use types::arc_ty::wide;
-use walks::nodes::first_child;
-use walks::nodes::kind_at;
 use walks::reach::reachable;
 ghost use mathlib.Core.Path.{_≡_};
 ghost use mathlib.Core.Bool.{true};
 ghost use Rattle.bits.specs.Bits.{has};
-ghost use Rattle.arena.specs.Stored.{Lent, InRange};
+ghost use Rattle.node_store.specs.Stored.{Lent, InRange};
 ghost use Rattle.walks.specs.Asked.{ask-reply, Answers};
 ghost use Rattle.questions.specs.Vars.{asked-out};
 ghost use Rattle.questions.specs.Lambdas.{has-shared-tyvar-across-lambda-params, param-out, ParamAt, ParamRow, Seeing, Shares};

@@ -1,13 +1,13 @@
 // What a named type stands for.
-use arena::sound::Judged;
-use arena::sound::judge;
+use node_reading::nodes::first_child;
+use node_reading::nodes::kind_at;
+use soundness::Judged;
+use soundness::judge;
 use types::Counters;
 use types::arc_ty::Head;
 use types::arc_ty::wide;
-use walks::nodes::first_child;
-use walks::nodes::kind_at;
 ghost use mathlib.Core.Path.{_≡_};
-ghost use Rattle.arena.specs.Stored.{Lent, InRange};
+ghost use Rattle.node_store.specs.Stored.{Lent, InRange};
 ghost use Rattle.walks.specs.Asked.{ask-reply, Says, Answers};
 ghost use Rattle.questions.specs.Named.{unwrap-named, unwrapped-out};
 

@@ -1,22 +1,22 @@
 // Whether a type has variables. Children have lower numbers, so one loop from node 0 up to the root knows of each node's children
 // before it comes to the node.
-use arena::sound::Judged;
-use arena::sound::judge;
-use arena::stored::node_at;
 use bits::put;
 use bits::test;
+use node_reading::children::child_at;
+use node_reading::children::child_count;
+use node_reading::nodes::kind_in;
+use node_store::stored::node_at;
+use soundness::Judged;
+use soundness::judge;
 use types::Counters;
 use types::arc_ty::Head;
 use types::arc_ty::wide;
-use walks::children::child_at;
-use walks::children::child_count;
-use walks::nodes::kind_in;
 ghost use mathlib.Core.Path.{_≡_};
 ghost use mathlib.Core.List.{map};
 ghost use lib.ListN.{drop};
 ghost use Rattle.types.specs.Fault.{children-in};
 ghost use Rattle.bits.specs.Bits.{has, Row};
-ghost use Rattle.arena.specs.Stored.{Lent, InRange};
+ghost use Rattle.node_store.specs.Stored.{Lent, InRange};
 ghost use Rattle.walks.specs.Asked.{ask-reply, Says, Answers};
 ghost use Rattle.walks.specs.Reach.{some-of};
 ghost use Rattle.questions.specs.Vars.{has-var, has-type-vars, contains-bare-tyvar, words-have, Learned, asked-out};

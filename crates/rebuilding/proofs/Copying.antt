@@ -16,7 +16,7 @@ use Rattle.types.proofs.Nodes.{formed-parts, few-words, length-child-words}
 use Rattle.types.proofs.Faults.{children-encode}
 use Rattle.types.proofs.Sound.{at-formed, child-lower}
 use Rattle.bits.proofs.Sets.{has-none}
-use Rattle.arena.specs.Stored.{InRange, NodeAt}
+use Rattle.node_store.specs.Stored.{InRange, NodeAt}
 use Rattle.simplification.specs.Pass.{no-variable, is-removable, remaining}
 use Rattle.rebuilding.specs.Children.{setting, Agrees, Drops, Space, unless, Adds, AllChildren, Remains}
 use Rattle.rebuilding.specs.declared.children.Children.{Children}

@@ -12,9 +12,9 @@ use Rattle.types.specs.Node.{positive, negative, primitive, list, lambda, attrs
 use Rattle.types.specs.Arena.{Arena, at}
 use Rattle.types.specs.declared.Counters.{Counters}
 use Rattle.bits.specs.Bits.{has}
-use Rattle.arena.specs.Stored.{InRange}
-use Rattle.walks.specs.Nodes.{KindAt, ParentAt, FirstChild}
-use Rattle.walks.proofs.NodeReads.{first-lower, first-range}
+use Rattle.node_store.specs.Stored.{InRange}
+use Rattle.node_reading.specs.Nodes.{KindAt, ParentAt, FirstChild}
+use Rattle.node_reading.proofs.NodeReads.{first-lower, first-range}
 use Rattle.simplification.specs.Seen.{same-tag}
 use Rattle.simplification.specs.Pass.{no-variable, var-of, is-removable}
 use Rattle.rebuilding.specs.Children.{RemovesVar, Removes, Drops}

@@ -17,8 +17,8 @@ use Rattle.types.specs.Node.{positive, negative, Field, field, primitive, list,
 use Rattle.types.specs.Fault.{children-in}
 use Rattle.types.proofs.Lists.{below-at, below-cons}
 use Rattle.types.proofs.Nodes.{length-child-words, Formed}
-use Rattle.walks.proofs.Offspring.{child-inside}
-use Rattle.arena.proofs.Loops.{Agree, agree-start, agree-more, agree-fails, agree-done}
+use Rattle.node_reading.proofs.Offspring.{child-inside}
+use Rattle.node_store.proofs.Loops.{Agree, agree-start, agree-more, agree-fails, agree-done}
 use Rattle.rebuilding.specs.Rebuilt.{with-child, AsMany, Exchanging, Exchanged}
 
 -- ---- the children as they were

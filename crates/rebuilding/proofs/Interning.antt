@@ -21,11 +21,11 @@ use Rattle.types.proofs.Lists.{below-more}
 use Rattle.types.proofs.Nodes.{nil, formed-parts}
 use Rattle.types.proofs.Sound.{at-well, at-formed}
 use Rattle.types.proofs.Addresses.{start-room}
-use Rattle.arena.specs.Stored.{InRange, NodeAt}
-use Rattle.arena.specs.Added.{Fresh, Interns}
-use Rattle.arena.specs.declared.added.Interned.{Interned}
-use Rattle.arena.specs.declared.added.Interned.the-variants as interned
-use Rattle.arena.proofs.Additions.{finished}
+use Rattle.node_store.specs.Stored.{InRange, NodeAt}
+use Rattle.node_store.specs.Added.{Fresh, Interns}
+use Rattle.node_store.specs.declared.added.Interned.{Interned}
+use Rattle.node_store.specs.declared.added.Interned.the-variants as interned
+use Rattle.node_store.proofs.Additions.{finished}
 use Rattle.recursion.proofs.Interning.{node-is, well-again, intern-there}
 use Rattle.rebuilding.specs.Rebuilt.{AsMany, Exchanging, Exchanged, Rebuilding, Rebuilds}
 use Rattle.rebuilding.proofs.Copying.{children-read, few-read}

@@ -11,9 +11,9 @@ use Rattle.types.specs.Fault.{children-in}
 use Rattle.types.specs.Memory.{Holds}
 use Rattle.types.specs.Reply.{reply-of}
 use Rattle.types.specs.declared.Counters.{Counters}
-use Rattle.arena.specs.Stored.{Lent}
-use Rattle.arena.specs.Intern.{intern, left}
-use Rattle.arena.specs.declared.added.Interned.{Interned}
+use Rattle.node_store.specs.Stored.{Lent}
+use Rattle.node_store.specs.Intern.{intern, left}
+use Rattle.node_store.specs.declared.added.Interned.{Interned}
 
 -- a field word or a child word with another child, which stands in its lowest bits (01, "Words of the arena")
 unfoldable pub with-child : ℕ → ℕ → ℕ

@@ -1,14 +1,14 @@
 // Which children of a node a pass simplifies.
-use arena::stored::node_at;
 use bits::test;
+use node_reading::children::child_at;
+use node_reading::children::child_count;
+use node_reading::nodes::first_child;
+use node_reading::nodes::kind_at;
+use node_store::stored::node_at;
 use types::Counters;
 use types::arc_ty::Head;
 use types::arc_ty::wide;
-use walks::children::child_at;
-use walks::children::child_count;
-use walks::nodes::first_child;
-use walks::nodes::kind_at;
-ghost use Rattle.arena.specs.Stored.{InRange};
+ghost use Rattle.node_store.specs.Stored.{InRange};
 ghost use Rattle.rebuilding.specs.Children.{RemovesVar, Removes, Drops, Space, Adds, AllChildren, Remains};
 
 // The children of a node, in their order: a set with a dynamic part has up to 65.

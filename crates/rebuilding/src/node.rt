@@ -1,11 +1,11 @@
 // A node with other children.
-use arena::added::Interned;
-use arena::added::intern_node;
-use arena::stored::node_at;
+use node_reading::children::child_at;
+use node_store::added::Interned;
+use node_store::added::intern_node;
+use node_store::stored::node_at;
 use types::Counters;
 use types::arc_ty::child;
 use types::arc_ty::wide;
-use walks::children::child_at;
 ghost use Prim.Native.Nat.{_<_};
 ghost use mathlib.Core.Path.{_≡_};
 ghost use lib.ListN.{take};

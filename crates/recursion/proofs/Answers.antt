@@ -6,7 +6,7 @@ use native.Mathlib.Omega.{arith}
 use Rattle.types.specs.Out.{Out, ok, refuse, _>>=_}
 use Rattle.types.specs.Node.{Tag, node}
 use Rattle.types.specs.Arena.{Arena}
-use Rattle.arena.specs.Intern.{intern}
+use Rattle.node_store.specs.Intern.{intern}
 use Rattle.recursion.specs.Jobs.{Job, each, rebuild}
 
 pub ok-refuse : {A : Type 0} {x : A} {n : ℕ} → _≡_ {A = Out A} (refuse n) (ok x) → ⊥

@@ -13,13 +13,13 @@ use Rattle.types.proofs.Memories.{unique}
 use Rattle.types.proofs.Addresses.{length-heads}
 use Rattle.types.proofs.Replies.{rooted-no, rooted-yes}
 use Rattle.names.specs.Table.{Name}
-use Rattle.arena.specs.Sound.{lent-reply, judged-out}
-use Rattle.arena.specs.Intern.{left}
-use Rattle.arena.specs.declared.sound.Judged.{Judged}
-use Rattle.arena.specs.declared.sound.Judged.the-variants as verdict
-use Rattle.arena.specs.declared.added.Interned.{Interned}
-use Rattle.arena.specs.declared.added.Interned.the-variants as interned
-use Rattle.arena.proofs.Verdicts.{lent-names, lent-refused, lent-done}
+use Rattle.soundness.specs.Sound.{lent-reply, judged-out}
+use Rattle.node_store.specs.Intern.{left}
+use Rattle.soundness.specs.declared.Judged.{Judged}
+use Rattle.soundness.specs.declared.Judged.the-variants as verdict
+use Rattle.node_store.specs.declared.added.Interned.{Interned}
+use Rattle.node_store.specs.declared.added.Interned.the-variants as interned
+use Rattle.soundness.proofs.Verdicts.{lent-names, lent-refused, lent-done}
 use Rattle.recursion.specs.Work.{TakesBack}
 use Rattle.recursion.specs.Hosted.{Work, work-reply, LeadsOnce, done, stop, Works, WorksLent}
 use Rattle.recursion.proofs.Leading.{Stopped}

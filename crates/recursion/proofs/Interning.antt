@@ -16,9 +16,9 @@ use Rattle.types.proofs.Nodes.{Formed, formed-parts, parts-formed, length-child
 use Rattle.types.proofs.Decodes.{well-parts, parts-well}
 use Rattle.types.proofs.Growth.{ext-length, ext-at}
 use Rattle.types.proofs.Sound.{at-find}
-use Rattle.arena.specs.Intern.{intern}
-use Rattle.arena.proofs.Additions.{intern-stored, room-parts}
-use Rattle.arena.proofs.Interning.{Done, stored, added, done, done-ext, done-at, done-sound}
+use Rattle.node_store.specs.Intern.{intern}
+use Rattle.node_store.proofs.Additions.{intern-stored, room-parts}
+use Rattle.node_store.proofs.Interning.{Done, stored, added, done, done-ext, done-at, done-sound}
 
 pub node-is : (x : Node) {t : Tag} → tag x ≡ t → x ≡ node t (children x)
 node-is (node t cs) e = ap (λ (t : Tag). node t cs) e

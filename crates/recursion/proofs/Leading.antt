@@ -15,9 +15,9 @@ use Rattle.types.specs.declared.Counters.{Counters}
 use Rattle.types.proofs.Growth.{ext-length, ext-trans}
 use Rattle.types.proofs.Sound.{sound-ext}
 use Rattle.types.proofs.Addresses.{length-heads, ext-flat, ext-heads}
-use Rattle.arena.specs.Intern.{left}
-use Rattle.arena.specs.declared.added.Interned.{Interned}
-use Rattle.arena.specs.declared.added.Interned.the-variants as interned
+use Rattle.node_store.specs.Intern.{left}
+use Rattle.node_store.specs.declared.added.Interned.{Interned}
+use Rattle.node_store.specs.declared.added.Interned.the-variants as interned
 use Rattle.recursion.specs.Jobs.{Job}
 use Rattle.recursion.specs.Cache.{Hit, Cache}
 use Rattle.recursion.specs.Work.{Recursion, Relation, Grown, Stands, Leads, done, stop, LeadsEach}

@@ -9,10 +9,10 @@ use Rattle.types.specs.Arena.{Arena, at, here}
 use Rattle.types.specs.Memory.{Holds}
 use Rattle.types.specs.Reply.{reply-of}
 use Rattle.types.specs.declared.Counters.{Counters}
-use Rattle.arena.specs.Intern.{intern, left}
-use Rattle.arena.specs.declared.added.Interned.{Interned}
-use Rattle.arena.specs.declared.added.Interned.the-variants as interned
-use Rattle.arena.proofs.Interning.{done, done-ext}
+use Rattle.node_store.specs.Intern.{intern, left}
+use Rattle.node_store.specs.declared.added.Interned.{Interned}
+use Rattle.node_store.specs.declared.added.Interned.the-variants as interned
+use Rattle.node_store.proofs.Interning.{done, done-ext}
 use Rattle.recursion.specs.Jobs.{Job, each, rebuild}
 use Rattle.recursion.specs.Cache.{Cache}
 use Rattle.recursion.specs.Work.{Recursion, Relation, Leads, Does, DoesEach}

@@ -9,8 +9,8 @@ use lib.Seq.{getD-set-same, getD-set-other}
 use Rattle.types.specs.Arena.{Arena, here}
 use Rattle.types.specs.declared.Counters.{Counters}
 use Rattle.types.proofs.Addresses.{start-room}
-use Rattle.arena.specs.declared.added.Interned.{Interned}
-use Rattle.arena.specs.declared.added.Interned.the-variants as interned
+use Rattle.node_store.specs.declared.added.Interned.{Interned}
+use Rattle.node_store.specs.declared.added.Interned.the-variants as interned
 use Rattle.recursion.specs.Jobs.{Job}
 use Rattle.recursion.specs.Cache.{Hit, Cache, CacheRoom, Remembers}
 use Rattle.recursion.specs.Work.{Recursion, Relation, Leads, done, Ready, Does}

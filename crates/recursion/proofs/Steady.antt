@@ -14,7 +14,7 @@ use Rattle.types.specs.Arena.{Arena, rec, sound, Ext, here}
 use Rattle.types.proofs.Lists.{below-more}
 use Rattle.types.proofs.Growth.{ext-trans, ext-length, at-new, rec-grow, rec-new}
 use Rattle.types.proofs.Sound.{sound-well, sound-tail, child-lower}
-use Rattle.arena.specs.Intern.{intern}
+use Rattle.node_store.specs.Intern.{intern}
 use Rattle.recursion.specs.Jobs.{Job, each, rebuild}
 use Rattle.recursion.proofs.Members.{index-of}
 use Rattle.recursion.proofs.Answers.{ok-refuse, ok-same, bind-parts, bind-ok}

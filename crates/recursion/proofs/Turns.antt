@@ -14,8 +14,8 @@ use Rattle.types.specs.Memory.{Holds}
 use Rattle.types.specs.declared.Counters.{Counters}
 use Rattle.types.proofs.Growth.{ext-length, ext-trans}
 use Rattle.types.proofs.Lists.{below-at, below-more, below-cons}
-use Rattle.arena.specs.declared.added.Interned.{Interned}
-use Rattle.arena.specs.declared.added.Interned.the-variants as interned
+use Rattle.node_store.specs.declared.added.Interned.{Interned}
+use Rattle.node_store.specs.declared.added.Interned.the-variants as interned
 use Rattle.recursion.specs.Jobs.{Job, each}
 use Rattle.recursion.specs.Cache.{Cache}
 use Rattle.recursion.specs.Work.{Recursion, Relation, Leads, Ready, Does, EachReady, LeadsEach, went, stop, DoesEach}

@@ -9,9 +9,9 @@ use Rattle.types.specs.Memory.{Holds}
 use Rattle.types.specs.Reply.{Reply, reply-of, tabled, judged, rooted}
 use Rattle.types.specs.declared.Counters.{Counters}
 use Rattle.names.specs.Table.{Name, names-of}
-use Rattle.arena.specs.Intern.{left}
-use Rattle.arena.specs.declared.added.Interned.{Interned}
-use Rattle.arena.specs.declared.added.Interned.the-variants as interned
+use Rattle.node_store.specs.Intern.{left}
+use Rattle.node_store.specs.declared.added.Interned.{Interned}
+use Rattle.node_store.specs.declared.added.Interned.the-variants as interned
 use Rattle.recursion.specs.Jobs.{Job}
 use Rattle.recursion.specs.Work.{Stands}
 

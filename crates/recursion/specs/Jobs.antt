@@ -4,7 +4,7 @@ use mathlib.Core.List.{List, [], _∷_}
 use Rattle.types.specs.Out.{Out, ok, _>>=_}
 use Rattle.types.specs.Node.{Tag, node}
 use Rattle.types.specs.Arena.{Arena}
-use Rattle.arena.specs.Intern.{intern}
+use Rattle.node_store.specs.Intern.{intern}
 
 -- what is done in an arena: the number of a node, and the arena after
 abbrev pub Job : Type 0

@@ -9,8 +9,8 @@ use Rattle.types.specs.Node.{below}
 use Rattle.types.specs.Arena.{Arena, Ext}
 use Rattle.types.specs.Memory.{flat, heads, Holds}
 use Rattle.types.specs.declared.Counters.{Counters}
-use Rattle.arena.specs.declared.added.Interned.{Interned}
-use Rattle.arena.specs.declared.added.Interned.the-variants as interned
+use Rattle.node_store.specs.declared.added.Interned.{Interned}
+use Rattle.node_store.specs.declared.added.Interned.the-variants as interned
 use Rattle.recursion.specs.Jobs.{Job, each}
 use Rattle.recursion.specs.Cache.{Cache}
 use Rattle.recursion.specs.declared.Run.{Run}

@@ -17,12 +17,12 @@ use Rattle.types.specs.declared.Counters.{Counters}
 use Rattle.types.proofs.Tests.{true-false, and-true}
 use Rattle.types.proofs.Lists.{length-padded}
 use Rattle.types.proofs.Addresses.{start-room}
-use Rattle.arena.specs.Stored.{InRange}
-use Rattle.arena.specs.Intern.{intern}
-use Rattle.arena.specs.declared.added.Interned.{Interned}
-use Rattle.arena.specs.declared.added.Interned.the-variants as interned
+use Rattle.node_store.specs.Stored.{InRange}
+use Rattle.node_store.specs.Intern.{intern}
+use Rattle.node_store.specs.declared.added.Interned.{Interned}
+use Rattle.node_store.specs.declared.added.Interned.the-variants as interned
 use Rattle.walks.specs.Asked.{Says}
-use Rattle.walks.specs.Nodes.{KindAt}
+use Rattle.node_reading.specs.Nodes.{KindAt}
 use Rattle.recursion.specs.Jobs.{Job}
 use Rattle.recursion.specs.Work.{Leads, Ready, Does}
 use Rattle.recursion.specs.Work as work

@@ -6,7 +6,7 @@ use mathlib.Core.Option.{none, some}
 use Rattle.types.specs.Out.{ok}
 use Rattle.types.specs.Node.{tag}
 use Rattle.types.specs.Arena.{at}
-use Rattle.arena.specs.Intern.{intern}
+use Rattle.node_store.specs.Intern.{intern}
 use Rattle.recursion.specs.Jobs.{Job}
 use Rattle.free_vars.specs.FreeVars.{free-type-vars}
 use Rattle.renumbering.specs.Renumbered.{var-number, var-node, renumbered}

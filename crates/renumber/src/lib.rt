@@ -1,20 +1,20 @@
 // The variables of a type numbered in the order of a first visit: `normalize_vars` and `normalize_replacing_unknown`.
-use arena::added::Interned;
-use arena::sound::Judged;
-use arena::sound::judge;
 use free_vars::list_vars;
+use node_reading::nodes::kind_at;
+use node_store::added::Interned;
 use recursion::take_back;
 use renumbering::nodes::renumber_node;
 use renumbering::vars::intern_var;
+use soundness::Judged;
+use soundness::judge;
 use types::Counters;
 use types::arc_ty::Head;
 use types::arc_ty::UNKNOWN_TYVAR;
 use types::arc_ty::wide;
-use walks::nodes::kind_at;
 ghost use mathlib.Core.Path.{_≡_};
 ghost use mathlib.Core.Bool.{true, false};
-ghost use Rattle.arena.specs.Stored.{Lent, InRange};
-ghost use Rattle.arena.specs.Intern.{left};
+ghost use Rattle.node_store.specs.Stored.{Lent, InRange};
+ghost use Rattle.node_store.specs.Intern.{left};
 ghost use Rattle.recursion.specs.Hosted.{work-reply, Works, WorksLent};
 ghost use Rattle.renumber.specs.Renumber.{normalize-vars, normalize};
 

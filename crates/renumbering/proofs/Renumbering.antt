@@ -11,7 +11,7 @@ use Rattle.types.specs.Node.{var, Node, tag, children}
 use Rattle.types.specs.Arena.{Arena, at, sound, here, more}
 use Rattle.types.proofs.Growth.{ext-tail, ext-trans, ext-length, ext-rec, before, rec-at}
 use Rattle.types.proofs.Sound.{sound-ext, child-lower}
-use Rattle.arena.specs.Intern.{intern}
+use Rattle.node_store.specs.Intern.{intern}
 use Rattle.recursion.specs.Jobs.{Job, rebuild}
 use Rattle.recursion.proofs.Answers.{rebuild-same}
 use Rattle.recursion.proofs.Members.{index-of}

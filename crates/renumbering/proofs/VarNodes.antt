@@ -14,10 +14,10 @@ use Rattle.types.specs.Memory.{Holds}
 use Rattle.types.specs.Reply.{reply-of}
 use Rattle.types.specs.declared.Counters.{Counters}
 use Rattle.types.proofs.Sound.{at-formed}
-use Rattle.arena.specs.Stored.{Lent, InRange, NodeAt}
-use Rattle.arena.specs.Intern.{intern, left}
-use Rattle.arena.specs.Added.{Fresh, Interns}
-use Rattle.arena.specs.declared.added.Interned.{Interned}
+use Rattle.node_store.specs.Stored.{Lent, InRange, NodeAt}
+use Rattle.node_store.specs.Intern.{intern, left}
+use Rattle.node_store.specs.Added.{Fresh, Interns}
+use Rattle.node_store.specs.declared.added.Interned.{Interned}
 use Rattle.free_vars.proofs.Occurrences.{kind-var, var-alone}
 use Rattle.renumbering.specs.Renumbered.{index, var-node}
 use Rattle.renumbering.specs.Inner.{VarAt, VarIs, InternsVar, RenumbersVar}

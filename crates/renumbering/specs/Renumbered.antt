@@ -7,7 +7,7 @@ use lib.Dec.{eqb}
 use Rattle.types.specs.Out.{refuse}
 use Rattle.types.specs.Node.{Tag, members, bound, var, neg, form, Node, node, tag, children}
 use Rattle.types.specs.Arena.{Arena, rec}
-use Rattle.arena.specs.Intern.{intern}
+use Rattle.node_store.specs.Intern.{intern}
 use Rattle.recursion.specs.Jobs.{Job, rebuild}
 
 -- the place of v in a list; how many there are, if it has none

@@ -1,6 +1,7 @@
 // The recursion: a node is rebuilt from what its children become. A refusal is passed up, and memory then begins with the arena as it was.
 use crate::vars::renumber_var;
-use arena::added::Interned;
+use node_reading::nodes::kind_at;
+use node_store::added::Interned;
 use rebuilding::children::all_children;
 use rebuilding::node::rebuild;
 use recursion::Run;
@@ -10,7 +11,6 @@ use recursion::remember;
 use types::Counters;
 use types::arc_ty::Head;
 use types::arc_ty::wide;
-use walks::nodes::kind_at;
 ghost use Rattle.recursion.specs.Work.{Ready, Does, EachReady, DoesEach};
 ghost use Rattle.renumbering.specs.Renumbered.{renumbered};
 ghost use Rattle.renumbering.specs.Inner.{Numbered};

@@ -1,14 +1,14 @@
 // One variable: its number, its place in a list, and its node.
-use arena::added::Interned;
-use arena::added::intern_node;
-use arena::stored::node_at;
+use node_store::added::Interned;
+use node_store::added::intern_node;
+use node_store::stored::node_at;
 use types::Counters;
 use types::arc_ty::Head;
 use types::arc_ty::wide;
 ghost use mathlib.Core.Path.{_≡_};
 ghost use Prim.Native.Nat.{_≤_};
 ghost use lib.ListN.{length};
-ghost use Rattle.arena.specs.Stored.{Lent};
+ghost use Rattle.node_store.specs.Stored.{Lent};
 ghost use Rattle.renumbering.specs.Renumbered.{index};
 ghost use Rattle.renumbering.specs.Inner.{VarAt, VarIs, InternsVar, RenumbersVar};
 

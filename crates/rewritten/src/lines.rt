@@ -1,8 +1,8 @@
 // A line for each call: the type, the call, and what it answered.
-use arena::added::Interned;
 use compact::Copied;
 use compact::compact;
 use equal::structurally_eq;
+use node_store::added::Interned;
 use questions::vars::Asked;
 use renumber::normalize_replacing_unknown;
 use renumber::normalize_vars;

@@ -12,10 +12,10 @@ use Rattle.types.specs.Memory.{Holds}
 use Rattle.types.specs.declared.Counters.{Counters}
 use Rattle.types.proofs.Faults.{children-encode}
 use Rattle.types.proofs.Sound.{at-formed}
-use Rattle.arena.specs.Stored.{NodeAt}
-use Rattle.arena.specs.declared.added.Interned.{Interned}
-use Rattle.arena.specs.declared.added.Interned.the-variants as interned
-use Rattle.walks.specs.Nodes.{KindAt}
+use Rattle.node_store.specs.Stored.{NodeAt}
+use Rattle.node_store.specs.declared.added.Interned.{Interned}
+use Rattle.node_store.specs.declared.added.Interned.the-variants as interned
+use Rattle.node_reading.specs.Nodes.{KindAt}
 use Rattle.simplification.proofs.Answers.{same-tag-if, same-tag-not}
 use Rattle.member_lists.specs.Members.{grown-out, Grows, Splicing}
 use Rattle.member_lists.specs.declared.growing.Grown.{Grown}

@@ -10,10 +10,10 @@ use Rattle.types.specs.Arena.{Arena, at}
 use Rattle.types.specs.Memory.{Holds}
 use Rattle.types.specs.Reply.{reply-of}
 use Rattle.types.specs.declared.Counters.{Counters}
-use Rattle.arena.specs.Stored.{InRange}
-use Rattle.arena.specs.Intern.{left}
-use Rattle.arena.specs.declared.added.Interned.{Interned}
-use Rattle.arena.specs.declared.added.Interned.the-variants as interned
+use Rattle.node_store.specs.Stored.{InRange}
+use Rattle.node_store.specs.Intern.{left}
+use Rattle.node_store.specs.declared.added.Interned.{Interned}
+use Rattle.node_store.specs.declared.added.Interned.the-variants as interned
 use Rattle.simplification.specs.Pass.{first-copies}
 use Rattle.member_lists.specs.Members.{Room, Grows}
 use Rattle.member_lists.specs.declared.growing.Grown.{Grown}

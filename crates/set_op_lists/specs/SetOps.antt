@@ -8,7 +8,7 @@ use lib.Dec.{eqb}
 use Rattle.types.specs.Out.{Out, ok, refuse, _>>=_}
 use Rattle.types.specs.Node.{Polarity, members, Node, node, tag, children}
 use Rattle.types.specs.Arena.{Arena, at, rec}
-use Rattle.arena.specs.Intern.{intern}
+use Rattle.node_store.specs.Intern.{intern}
 use Rattle.recursion.specs.Jobs.{Job, rebuild}
 use Rattle.simplification.specs.Seen.{same-tag}
 use Rattle.simplification.specs.Pass.{first-copies, list-kind}

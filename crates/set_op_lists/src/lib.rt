@@ -1,17 +1,17 @@
 // What becomes of a union or an intersection in `normalize_set_ops`, from its members as normalized. Both are one code over the
 // number of their kind.
-use arena::added::Interned;
-use arena::stored::node_at;
 use member_lists::Members;
 use member_lists::growing::Grown;
 use member_lists::growing::append;
 use member_lists::growing::append_children;
 use member_lists::intern_list;
 use member_sorting::sort_members;
+use node_reading::nodes::kind_at;
+use node_store::added::Interned;
+use node_store::stored::node_at;
 use types::Counters;
 use types::arc_ty::Head;
 use types::arc_ty::wide;
-use walks::nodes::kind_at;
 ghost use Rattle.member_lists.specs.Members.{Splicing, Filled};
 ghost use Rattle.set_op_lists.specs.Lists.{Appends, Bringing, Brings, StandsFor};
 

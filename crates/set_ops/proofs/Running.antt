@@ -7,8 +7,8 @@ use Rattle.types.specs.Out.{Out}
 use Rattle.types.specs.Arena.{Arena, here}
 use Rattle.types.specs.Memory.{Holds}
 use Rattle.types.specs.declared.Counters.{Counters}
-use Rattle.arena.specs.Stored.{InRange}
-use Rattle.arena.specs.declared.added.Interned.{Interned}
+use Rattle.node_store.specs.Stored.{InRange}
+use Rattle.node_store.specs.declared.added.Interned.{Interned}
 use Rattle.recursion.specs.Jobs.{Job}
 use Rattle.recursion.specs.Work.{Grown, Leads, Ready, Does}
 use Rattle.recursion.specs.Work as work

@@ -15,8 +15,8 @@ use Rattle.types.specs.Node.{Polarity, Tag, members, Node, node, tag, children}
 use Rattle.types.specs.Arena.{Arena, at, sound, Ext, here}
 use Rattle.types.proofs.Growth.{ext-trans, ext-length, ext-at}
 use Rattle.types.proofs.Sound.{child-lower}
-use Rattle.arena.specs.Intern.{intern}
-use Rattle.arena.proofs.Interning.{done, done-ext, done-at}
+use Rattle.node_store.specs.Intern.{intern}
+use Rattle.node_store.proofs.Interning.{done, done-ext, done-at}
 use Rattle.recursion.specs.Jobs.{each, rebuild}
 use Rattle.recursion.proofs.Answers.{ok-same, bind-parts}
 use Rattle.recursion.proofs.Members.{index-of, member-at}

@@ -1,14 +1,14 @@
 // `normalize_set_ops`: unions and intersections flattened, sorted and without repeats.
-use arena::added::Interned;
-use arena::sound::Judged;
-use arena::sound::judge;
+use node_store::added::Interned;
 use recursion::take_back;
 use set_ops_pass::normalize_set_ops_cached;
+use soundness::Judged;
+use soundness::judge;
 use types::Counters;
 use types::arc_ty::wide;
 ghost use mathlib.Core.Path.{_≡_};
-ghost use Rattle.arena.specs.Stored.{Lent, InRange};
-ghost use Rattle.arena.specs.Intern.{left};
+ghost use Rattle.node_store.specs.Stored.{Lent, InRange};
+ghost use Rattle.node_store.specs.Intern.{left};
 ghost use Rattle.recursion.specs.Hosted.{work-reply, Works, WorksLent};
 ghost use Rattle.set_op_lists.specs.SetOps.{normalize-set-ops};
 

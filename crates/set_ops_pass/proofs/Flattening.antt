@@ -16,11 +16,11 @@ use Rattle.types.specs.declared.Counters.{Counters}
 use Rattle.types.proofs.Growth.{ext-length, ext-trans, ext-at}
 use Rattle.types.proofs.Memories.{unique}
 use Rattle.types.proofs.Sound.{sound-ext, child-lower}
-use Rattle.arena.specs.Stored.{InRange}
-use Rattle.arena.specs.declared.added.Interned.{Interned}
-use Rattle.arena.specs.declared.added.Interned.the-variants as interned
-use Rattle.arena.proofs.Interning.{done-ext}
-use Rattle.arena.proofs.Interning as interning
+use Rattle.node_store.specs.Stored.{InRange}
+use Rattle.node_store.specs.declared.added.Interned.{Interned}
+use Rattle.node_store.specs.declared.added.Interned.the-variants as interned
+use Rattle.node_store.proofs.Interning.{done-ext}
+use Rattle.node_store.proofs.Interning as interning
 use Rattle.recursion.specs.Jobs.{Job}
 use Rattle.recursion.specs.Cache.{Cache}
 use Rattle.recursion.specs.Work.{Grown, Leads, done, stop, Ready, Does}

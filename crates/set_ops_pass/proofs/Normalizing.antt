@@ -16,7 +16,7 @@ use Rattle.types.proofs.Lists.{below-at, below-more}
 use Rattle.types.proofs.Decodes.{well-parts}
 use Rattle.types.proofs.Growth.{ext-tail, ext-length, ext-at, ext-rec, before, rec-at}
 use Rattle.types.proofs.Sound.{child-lower}
-use Rattle.arena.specs.Intern.{intern}
+use Rattle.node_store.specs.Intern.{intern}
 use Rattle.recursion.specs.Jobs.{Job, rebuild}
 use Rattle.recursion.specs.Work.{Grown}
 use Rattle.recursion.proofs.Answers.{rebuild-same}

@@ -8,7 +8,7 @@ use Rattle.types.specs.Node.{Polarity, members, tag, kind, children}
 use Rattle.types.specs.Arena.{Arena, at}
 use Rattle.types.specs.Memory.{Holds}
 use Rattle.types.specs.declared.Counters.{Counters}
-use Rattle.arena.specs.Stored.{InRange}
+use Rattle.node_store.specs.Stored.{InRange}
 use Rattle.recursion.specs.Work.{Ready, Grown}
 use Rattle.set_op_lists.specs.SetOps.{normalize}
 

@@ -1,7 +1,10 @@
 // The recursion of `normalize_set_ops`: a member list is flattened and sorted, any other node is rebuilt from what its children
 // become. A refusal is passed up, and memory then begins with the arena as it was.
-use arena::added::Interned;
-use arena::stored::node_at;
+use node_reading::children::child_at;
+use node_reading::children::child_count;
+use node_reading::nodes::kind_at;
+use node_store::added::Interned;
+use node_store::stored::node_at;
 use rebuilding::children::all_children;
 use rebuilding::node::rebuild;
 use recursion::Run;
@@ -14,10 +17,7 @@ use set_op_lists::close_list;
 use types::Counters;
 use types::arc_ty::Head;
 use types::arc_ty::wide;
-use walks::children::child_at;
-use walks::children::child_count;
-use walks::nodes::kind_at;
-ghost use Rattle.arena.specs.Stored.{InRange};
+ghost use Rattle.node_store.specs.Stored.{InRange};
 ghost use Rattle.recursion.specs.Work.{Grown, Ready, Does, EachReady, DoesEach};
 ghost use Rattle.set_op_lists.specs.SetOps.{normalize};
 ghost use Rattle.set_ops_pass.specs.Inner.{ListReady, MemberCount, MemberThere, MemberAt};

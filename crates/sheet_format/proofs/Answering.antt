@@ -10,7 +10,7 @@ use Rattle.types.specs.declared.Counters.{Counters}
 use Rattle.types.proofs.Addresses.{start-room}
 use Rattle.names.specs.Table.{IsTable}
 use Rattle.names.proofs.Tables.{split-is}
-use Rattle.arena.specs.Stored.{InRange}
+use Rattle.node_store.specs.Stored.{InRange}
 use Rattle.simplification.specs.Passes.{Result, simplify}
 use Rattle.simplify.specs.Simplify.{Simplifies}
 use Rattle.simplify.specs.declared.Simplified.{Simplified}

@@ -14,13 +14,13 @@ use Rattle.types.specs.Reply.{reply-of}
 use Rattle.types.specs.declared.Counters.{Counters}
 use Rattle.types.proofs.Decodes.{decode-ok, Faultless, faultless, faulty}
 use Rattle.types.proofs.Sound.{find-at}
-use Rattle.arena.specs.Intern.{has-room, intern, left}
-use Rattle.arena.specs.Added.{Interns}
-use Rattle.arena.specs.declared.added.Interned.{Interned}
-use Rattle.arena.specs.declared.added.Interned.the-variants as interned
-use Rattle.arena.proofs.Additions.{intern-stored, intern-full, intern-new}
-use Rattle.arena.proofs.Interning as interning
-use Rattle.arena.proofs.Interning.{done-holds}
+use Rattle.node_store.specs.Intern.{has-room, intern, left}
+use Rattle.node_store.specs.Added.{Interns}
+use Rattle.node_store.specs.declared.added.Interned.{Interned}
+use Rattle.node_store.specs.declared.added.Interned.the-variants as interned
+use Rattle.node_store.proofs.Additions.{intern-stored, intern-full, intern-new}
+use Rattle.node_store.proofs.Interning as interning
+use Rattle.node_store.proofs.Interning.{done-holds}
 use Rattle.sheet_reading.specs.Sheet.{placed, added}
 use Rattle.sheet_reading.specs.Steps.{Adds, done, stop, AddsNode}
 

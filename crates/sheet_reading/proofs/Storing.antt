@@ -9,8 +9,8 @@ use Rattle.types.specs.Out.{Out, ok, refuse, _>>=_}
 use Rattle.types.specs.Arena.{Arena}
 use Rattle.types.specs.Memory.{Holds}
 use Rattle.types.specs.declared.Counters.{Counters}
-use Rattle.arena.specs.declared.added.Interned.{Interned}
-use Rattle.arena.specs.declared.added.Interned.the-variants as interned
+use Rattle.node_store.specs.declared.added.Interned.{Interned}
+use Rattle.node_store.specs.declared.added.Interned.the-variants as interned
 use Rattle.names.proofs.Walking.{part}
 use Rattle.sheet_reading.specs.Sheet.{words, node-words, added, node, nodes}
 use Rattle.sheet_reading.specs.Steps.{ReadsWords, Stretch, Copied, Adds, AddsNode, Stores, to, stop, Ready, StoresNode, ReadyEmpty, StoresNodes}

@@ -1,14 +1,14 @@
 // The nodes of a sheet, read into lent memory. The arena in memory is known to be sound, and stays so: it isn't checked again.
 use crate::bytes::Place;
 use crate::bytes::word;
-use arena::added::Interned;
-use arena::added::intern_node;
 use node_faults::fault;
 use node_faults::head_fits;
+use node_store::added::Interned;
+use node_store::added::intern_node;
 use types::Counters;
 use types::arc_ty::Head;
 use types::arc_ty::wide;
-ghost use Rattle.arena.specs.Added.{Under};
+ghost use Rattle.node_store.specs.Added.{Under};
 ghost use Rattle.sheet_reading.specs.Steps.{Here, ReadsWords, Stretch, Copied, AddsNode, Ready, StoresNode, ReadyEmpty, StoresNodes};
 
 // The place where reading goes on and the counters, or the number of a refusal.

@@ -1,14 +1,8 @@
 // The name table of a sheet.
 use crate::bytes::Place;
 use names::follows;
-ghost use mathlib.Core.Path.{_≡_};
+use names::wide;
 ghost use Rattle.sheet_reading.specs.Steps.{Here, ReadsName, ReadsNames};
-
-fn wide(x: u8) -> usize
-    ensures { λ r. ⌜ r ≡ x ⌝ }
-{
-    x as usize
-}
 
 // Where the name ends whose length byte stands at `at`, if it may follow the previous one.
 fn read_name(bytes: &[u8], previous: &[u8], at: usize) -> Place

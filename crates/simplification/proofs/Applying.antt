@@ -12,7 +12,7 @@ use Rattle.types.specs.Arena.{Arena, at, sound, Ext}
 use Rattle.types.specs.Places.{opposite}
 use Rattle.types.proofs.Growth.{ext-tail, ext-rec, before, rec-at}
 use Rattle.types.proofs.Sound.{sound-ext, child-lower}
-use Rattle.arena.specs.Intern.{intern}
+use Rattle.node_store.specs.Intern.{intern}
 use Rattle.recursion.specs.Jobs.{Job, each, rebuild}
 use Rattle.recursion.proofs.Answers.{each-same}
 use Rattle.recursion.proofs.Members.{index-of, member-at}

@@ -14,7 +14,7 @@ use Rattle.types.specs.Places.{opposite}
 use Rattle.types.proofs.Lists.{below-at, below-more}
 use Rattle.types.proofs.Decodes.{well-parts}
 use Rattle.types.proofs.Growth.{ext-trans, ext-length}
-use Rattle.arena.specs.Intern.{intern}
+use Rattle.node_store.specs.Intern.{intern}
 use Rattle.recursion.specs.Jobs.{Job, each, rebuild}
 use Rattle.recursion.proofs.Members.{index-of, member-at, member-below}
 use Rattle.recursion.proofs.Steady.{Steady, There, steady-later, steady-as, refusal-steady, answer-steady, then-steady, each-steady, intern-steady, rebuild-steady, step-well, step-child, rec-steady}

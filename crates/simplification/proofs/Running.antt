@@ -13,7 +13,7 @@ use Rattle.types.specs.Arena.{Arena, at, sound, Ext, here}
 use Rattle.types.specs.Places.{opposite}
 use Rattle.types.proofs.Growth.{ext-trans, ext-length}
 use Rattle.types.proofs.Sound.{at-well, child-lower}
-use Rattle.arena.specs.Intern.{intern}
+use Rattle.node_store.specs.Intern.{intern}
 use Rattle.recursion.specs.Jobs.{Job, each, rebuild}
 use Rattle.recursion.proofs.Answers.{ok-same, bind-parts}
 use Rattle.recursion.proofs.Interning.{node-is, At, well-again, interned}

@@ -10,7 +10,7 @@ use Rattle.types.specs.Out.{Out, ok, refuse, _>>=_}
 use Rattle.types.specs.Node.{Polarity, Tag, members, bound, var, neg, form, Node, node, tag, children}
 use Rattle.types.specs.Arena.{Arena, at, rec}
 use Rattle.types.specs.Places.{opposite}
-use Rattle.arena.specs.Intern.{intern}
+use Rattle.node_store.specs.Intern.{intern}
 use Rattle.recursion.specs.Jobs.{Job, each, rebuild}
 use Rattle.simplification.specs.Seen.{same-tag, one-signed}
 

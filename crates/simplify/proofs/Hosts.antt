@@ -13,11 +13,11 @@ use Rattle.types.proofs.Memories.{unique}
 use Rattle.types.proofs.Addresses.{length-heads}
 use Rattle.types.proofs.Replies.{rooted-no, rooted-yes}
 use Rattle.names.specs.Table.{Name}
-use Rattle.arena.specs.Stored.{Lent}
-use Rattle.arena.specs.Sound.{lent-reply, judged-out}
-use Rattle.arena.specs.declared.sound.Judged.{Judged}
-use Rattle.arena.specs.declared.sound.Judged.the-variants as verdict
-use Rattle.arena.proofs.Verdicts.{lent-names, lent-refused, lent-done}
+use Rattle.node_store.specs.Stored.{Lent}
+use Rattle.soundness.specs.Sound.{lent-reply, judged-out}
+use Rattle.soundness.specs.declared.Judged.{Judged}
+use Rattle.soundness.specs.declared.Judged.the-variants as verdict
+use Rattle.soundness.proofs.Verdicts.{lent-names, lent-refused, lent-done}
 use Rattle.simplification.specs.Passes.{Result, simplify}
 use Rattle.simplification.proofs.Demands.{demand-3}
 use Rattle.recursion.specs.Work.{Stands, TakesBack}

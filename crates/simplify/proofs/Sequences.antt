@@ -14,9 +14,9 @@ use Rattle.types.specs.Arena.{Arena, Ext, here}
 use Rattle.types.specs.Memory.{Holds}
 use Rattle.types.specs.declared.Counters.{Counters}
 use Rattle.types.proofs.Growth.{ext-trans}
-use Rattle.arena.specs.Stored.{InRange}
-use Rattle.arena.specs.declared.added.Interned.{Interned}
-use Rattle.arena.specs.declared.added.Interned.the-variants as interned
+use Rattle.node_store.specs.Stored.{InRange}
+use Rattle.node_store.specs.declared.added.Interned.{Interned}
+use Rattle.node_store.specs.declared.added.Interned.the-variants as interned
 use Rattle.simplification.specs.Pass.{pass}
 use Rattle.simplification.specs.Passes.{Taken, Result, after, unchanged, passes, simplify}
 use Rattle.recursion.specs.Work.{Stands}

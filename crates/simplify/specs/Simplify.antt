@@ -9,7 +9,7 @@ use Rattle.types.specs.Memory.{Holds}
 use Rattle.types.specs.Reply.{Reply, reply, reply-of, tabled, judged, rooted}
 use Rattle.types.specs.declared.Counters.{Counters}
 use Rattle.names.specs.Table.{Name, names-of}
-use Rattle.arena.specs.Stored.{InRange}
+use Rattle.node_store.specs.Stored.{InRange}
 use Rattle.simplification.specs.Passes.{Result, passes, simplify}
 use Rattle.simplification.specs.Demand.{Demand}
 use Rattle.recursion.specs.Work.{Stands}

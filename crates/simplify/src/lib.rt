@@ -1,12 +1,12 @@
 // `simplify`: one pass, then more until one changes nothing.
-use arena::added::Interned;
-use arena::sound::Judged;
-use arena::sound::judge;
+use node_store::added::Interned;
 use pass::once::simplify_once;
 use recursion::take_back;
+use soundness::Judged;
+use soundness::judge;
 use types::Counters;
 use types::arc_ty::wide;
-ghost use Rattle.arena.specs.Stored.{Lent, InRange};
+ghost use Rattle.node_store.specs.Stored.{Lent, InRange};
 ghost use Rattle.simplify.specs.Simplify.{PassRoom, MorePasses, Simplifies, SimplifiesLent, Promise};
 
 // The passes that may follow the first.

@@ -16,8 +16,8 @@ use Rattle.types.proofs.Nodes.{guess-encode}
 use Rattle.types.proofs.Faults.{children-encode}
 use Rattle.types.proofs.Sound.{at-formed, child-lower}
 use Rattle.names.specs.Table.{split}
-use Rattle.arena.specs.Stored.{InRange, NodeAt}
-use Rattle.walks.specs.Nodes.{KindAt}
+use Rattle.node_store.specs.Stored.{InRange, NodeAt}
+use Rattle.node_reading.specs.Nodes.{KindAt}
 use Rattle.text_writing.specs.Text.{when, parens, before}
 use Rattle.text_writing.specs.Writes.{Writes, IsFormed}
 use Rattle.text_writing.specs.Children.{ChildOf, encloses, IsChild, Encloses, Opens, Closes}

@@ -11,7 +11,7 @@ use Rattle.words.specs.Words.{bit, head-kind, head-open, head-dynamic, field-op
 use Rattle.types.specs.Bytes.{bytes}
 use Rattle.types.specs.Short.{short-text, text}
 use Rattle.types.specs.Tyvar.{tyvar-name}
-use Rattle.types.specs.Primitive.{primitive-text}
+use Rattle.primitive.specs.Primitive.{primitive-text}
 use Rattle.types.specs.Parens.{parens-in-union-member, parens-in-intersection-member, parens-in-lambda-param, parens-in-neg}
 use Rattle.types.specs.Kind as kinds
 use Rattle.types.specs.Kind.{Kind, disc}

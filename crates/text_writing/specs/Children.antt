@@ -11,7 +11,7 @@ use Rattle.types.specs.Arena.{Arena, at}
 use Rattle.types.specs.Memory.{Holds}
 use Rattle.types.specs.declared.Counters.{Counters}
 use Rattle.names.specs.Table.{split}
-use Rattle.arena.specs.Stored.{Lent}
+use Rattle.node_store.specs.Stored.{Lent}
 use Rattle.text_writing.specs.Text.{when, parens, before}
 use Rattle.text_writing.specs.Writes.{Writes}
 

@@ -5,7 +5,7 @@ use mathlib.Core.List.{List, [], _∷_, _++_}
 use lib.ListN.{length, getD}
 use Rattle.types.specs.Bytes.{bytes}
 use Rattle.types.specs.Tyvar.{tyvar-name}
-use Rattle.types.specs.Primitive.{primitive-text}
+use Rattle.primitive.specs.Primitive.{primitive-text}
 use Rattle.types.specs.Parens.{parens-in-union-member, parens-in-intersection-member, parens-in-lambda-param, parens-in-neg}
 use Rattle.types.specs.Kind.{disc}
 use Rattle.types.specs.Node.{positive, negative, Field, field, primitive, list, lambda, attrset, named, Tag, members, bound, var, neg, form, kind}

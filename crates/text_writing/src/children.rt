@@ -2,11 +2,11 @@
 use crate::append_if;
 use crate::pieces::in_parens;
 use crate::pieces::write_before;
-use arena::stored::node_at;
+use node_reading::children::child_at;
+use node_reading::nodes::kind_at;
+use node_store::stored::node_at;
 use types::Counters;
 use types::arc_ty::wide;
-use walks::children::child_at;
-use walks::nodes::kind_at;
 ghost use Rattle.text_writing.specs.Children.{ChildOf, IsChild, Encloses, Opens, Closes};
 
 // The number of child i of node n.

@@ -4,7 +4,6 @@ pub mod Flags
 pub mod Decimals
 pub mod Shorts
 pub mod Tyvars
-pub mod Primitives
 pub mod Lists
 pub mod KindNumbers
 pub mod Nodes

@@ -5,7 +5,6 @@ pub mod Bytes
 pub mod Decimal
 pub mod Short
 pub mod Tyvar
-pub mod Primitive
 pub mod Parens
 pub mod Kind
 pub mod Node

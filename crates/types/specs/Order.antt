@@ -1,7 +1,7 @@
 -- Orders, told three ways.
 use Prim.Native.Nat.{ℕ}
 use mathlib.Core.Path.{_≡_}
-use mathlib.Core.Bool.{true, false}
+use mathlib.Core.Bool.{Bool, true, false}
 use mathlib.Core.List.{List, [], _∷_}
 use lib.Dec.{ltb}
 use Rattle.types.specs.declared.Ordering.{Ordering}
@@ -33,6 +33,12 @@ by key f x y = f (key x) (key y)
 unfoldable pub then-by {ℓ} : {A : Type ℓ} → (A → A → Ordering) → (A → A → Ordering) → A → A → Ordering
 unfolding then
 then-by f g x y = then (f x y) (g x y)
+
+-- does the answer say that the first comes before the second?
+abbrev pub is-less : Ordering → Bool
+is-less Less = true
+is-less Equal = false
+is-less Greater = false
 
 -- what is told of two things in the other order
 unfoldable pub reversed : Ordering → Ordering

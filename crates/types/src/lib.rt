@@ -1,8 +1,7 @@
-// What every other crate stands on: words, kinds and nodes (`arc_ty`, `attrset`, `primitive`, after the Rust's files),
+// What every other crate stands on: words, kinds and nodes (`arc_ty`, `attrset`, after the Rust's files),
 // and the values that calls hand on.
 pub mod arc_ty;
 pub mod attrset;
-pub mod primitive;
 pub mod short_text;
 
 // How many nodes an arena has, and how many words they take.

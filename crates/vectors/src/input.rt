@@ -1,4 +1,5 @@
 // Standard input in large pieces, and the numbers that cases are made of, most significant byte first.
+use names::wide;
 ghost use Prim.Native.Nat.{_<_};
 
 // Which bytes of the buffer are read and not yet used, and whether the input has ended.
@@ -87,10 +88,6 @@ pub fn byte(s: &[u8], at: usize) -> usize {
         return wide(s[at]);
     }
     0
-}
-
-fn wide(byte: u8) -> usize {
-    byte as usize
 }
 
 fn joined(high: u8, low: u8) -> usize

@@ -8,10 +8,10 @@ use Rattle.types.specs.Arena.{Arena}
 use Rattle.types.specs.declared.Counters.{Counters}
 use Rattle.types.proofs.Replies.{rooted-no, rooted-yes}
 use Rattle.names.specs.Table.{Name}
-use Rattle.arena.specs.Sound.{lent-reply, judged-out}
-use Rattle.arena.specs.declared.sound.Judged.{Judged}
-use Rattle.arena.specs.declared.sound.Judged.the-variants as verdict
-use Rattle.arena.proofs.Verdicts.{lent-refused, lent-done}
+use Rattle.soundness.specs.Sound.{lent-reply, judged-out}
+use Rattle.soundness.specs.declared.Judged.{Judged}
+use Rattle.soundness.specs.declared.Judged.the-variants as verdict
+use Rattle.soundness.proofs.Verdicts.{lent-refused, lent-done}
 use Rattle.walks.specs.Asked.{asking, ask-reply, Says, Answers}
 
 module _ {A : Type 0} (q : Arena → ℕ → A) where

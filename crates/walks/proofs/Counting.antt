@@ -16,7 +16,7 @@ use Rattle.types.proofs.Walks.{place-lower}
 use Rattle.types.proofs.Addresses.{start-room}
 use Rattle.bits.specs.Bits.{has, Union, count-below}
 use Rattle.bits.proofs.Sets.{count-same}
-use Rattle.arena.specs.Stored.{InRange}
+use Rattle.node_store.specs.Stored.{InRange}
 use Rattle.walks.specs.Signs.{SignsIn}
 use Rattle.walks.specs.Asked.{Says}
 use Rattle.walks.specs.Reach.{reaches, reach-count, ReachIn}

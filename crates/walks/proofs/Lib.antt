@@ -1,11 +1,9 @@
-pub mod Offspring
 pub mod Additions
 pub mod Sweeps
 pub mod Visiting
 pub mod Marks
 pub mod Asking
 pub mod Reaching
-pub mod NodeReads
 pub mod Counting
 pub mod Variables
 pub mod OneSigns

@@ -21,7 +21,7 @@ use Rattle.types.proofs.Walks.{place-join}
 use Rattle.types.proofs.Addresses.{start-room}
 use Rattle.bits.specs.Bits.{has, Row, Put}
 use Rattle.bits.proofs.Sets.{has-none}
-use Rattle.arena.specs.Stored.{InRange}
+use Rattle.node_store.specs.Stored.{InRange}
 use Rattle.walks.specs.Signs.{side, Signs, Rows, ChildOf, Visits, Marking, SignsIn}
 
 -- a child has a place below its parent

@@ -14,7 +14,7 @@ use Rattle.types.specs.declared.Counters.{Counters}
 use Rattle.types.proofs.Tests.{true-false, not-true}
 use Rattle.types.proofs.Walks.{place-lower}
 use Rattle.bits.specs.Bits.{has, SymmetricDifference}
-use Rattle.arena.specs.Stored.{InRange}
+use Rattle.node_store.specs.Stored.{InRange}
 use Rattle.walks.specs.Signs.{side, SignsIn}
 use Rattle.walks.specs.Removable.{Seen, Removable, OneSigned, OneSignedIn}
 use Rattle.walks.proofs.Marks.{root-small}

@@ -1,5 +1,5 @@
 -- The children of a node put into the sets, one by one.
-use Prim.Native.Nat.{ℕ, _+_, _-_, _<_, _≤_}
+use Prim.Native.Nat.{ℕ, _+_, _<_, _≤_}
 use mathlib.Core.Path.{_≡_, sym, ap, _∙_, subst}
 use mathlib.Core.Bool.{Bool, true}
 use mathlib.Core.List.{List}
@@ -12,7 +12,7 @@ use Rattle.types.specs.Node.{Polarity}
 use Rattle.types.specs.Fault.{children-in}
 use Rattle.bits.specs.Bits.{has}
 use Rattle.walks.specs.Signs.{side, sign-of, turned, flag-after, Rows, Room, Adds, WordChild, AddsSome, AddsWords}
-use Rattle.walks.proofs.Offspring.{no-words, child-small}
+use Rattle.node_reading.proofs.Offspring.{no-words, child-small}
 
 -- i children are put in
 pub record Adding (ws : List ℕ) (flag : Bool) (kind count : ℕ) (p q p′ q′ : List ℕ) (i : ℕ) : Type 0 where

@@ -15,7 +15,7 @@ use Rattle.types.specs.Places.{child-sign, Place}
 use Rattle.types.specs.Memory.{Holds}
 use Rattle.types.specs.declared.Counters.{Counters}
 use Rattle.bits.specs.Bits.{has}
-use Rattle.arena.specs.Stored.{Lent}
+use Rattle.node_store.specs.Stored.{Lent}
 
 -- the set of one sign, of two
 abbrev pub side : Polarity → List ℕ → List ℕ → List ℕ

@@ -1,13 +1,13 @@
 // The nodes that a path of children leads to from a root.
 use crate::signs::signs_of;
-use arena::sound::Judged;
-use arena::sound::judge;
 use bits::count;
 use bits::union;
+use soundness::Judged;
+use soundness::judge;
 use types::Counters;
 use types::arc_ty::wide;
 ghost use mathlib.Core.Path.{_≡_};
-ghost use Rattle.arena.specs.Stored.{Lent, InRange};
+ghost use Rattle.node_store.specs.Stored.{Lent, InRange};
 ghost use Rattle.walks.specs.Asked.{ask-reply, Answers};
 ghost use Rattle.walks.specs.Reach.{reach-count, ReachIn, counted-out};
 

@@ -3,7 +3,7 @@
 use crate::signs::signs_of;
 use bits::symmetric_difference;
 use types::Counters;
-ghost use Rattle.arena.specs.Stored.{InRange};
+ghost use Rattle.node_store.specs.Stored.{InRange};
 ghost use Rattle.walks.specs.Removable.{OneSignedIn};
 
 // The nodes that have a place of one sign in the type of the root, and none of the other.

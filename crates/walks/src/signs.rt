@@ -1,16 +1,16 @@
 // Which nodes have a place in the type of a root, by sign. Children have lower numbers, so one loop from the root down meets
 // each node after all that lead to it, at most once with each sign.
-use crate::children::child_at;
-use crate::children::child_count;
-use arena::stored::node_at;
 use bits::put;
 use bits::test;
+use node_reading::children::child_at;
+use node_reading::children::child_count;
+use node_store::stored::node_at;
 use types::Counters;
 use types::arc_ty::Head;
 ghost use Prim.Native.Nat.{_<_};
 ghost use mathlib.Core.Path.{_≡_};
 ghost use Rattle.bits.specs.Bits.{has};
-ghost use Rattle.arena.specs.Stored.{InRange};
+ghost use Rattle.node_store.specs.Stored.{InRange};
 ghost use Rattle.walks.specs.Signs.{sign-of, turned, flag-after, Rows, Room, Adds, AddsWords, AddsAll, Visits, Marking, SignsIn, side};
 
 // Whether a node of this kind turns the sign of child i: `Neg` does, and a lambda that of its param.

@@ -1,6 +1,6 @@
 -- 1 and 2 are the verdict's; what follows them is that of `compare_in`.
 use Rattle.arena.proofs.Comparisons.{compare-refused, compare-done}
-use Rattle.arena.proofs.Verdicts.{lent-known}
+use Rattle.soundness.proofs.Verdicts.{lent-known}
 use borrow.Author.Needs.{needs}
 use Rattle.arena.proofs.compare.Statement.{statement}
 use Rattle.arena.proofs.compare.Tie as tie

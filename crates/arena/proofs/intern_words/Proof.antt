@@ -1,5 +1,6 @@
 -- A fault is the answer; words without one are a node's.
-use Rattle.arena.proofs.Answers.{words-fault, words-fresh, words-node}
+use Rattle.node_store.proofs.Additions.{words-fresh}
+use Rattle.arena.proofs.Answers.{words-fault, words-node}
 use borrow.Author.Needs.{needs}
 use Rattle.arena.proofs.intern_words.Statement.{statement}
 use Rattle.arena.proofs.intern_words.Tie as tie

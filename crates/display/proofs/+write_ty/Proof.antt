@@ -7,7 +7,7 @@ use borrow.Fn.PlainCycle.{Measures, is, falls, and}
 use Rattle.display.proofs.write_ty.Reads as write-ty
 use Rattle.display.proofs.write_ty.Kinds as write-ty-kinds
 use Rattle.display.proofs.+write_ty.Lts-write_ty as write-ty-lts
-use Rattle.arena.proofs.stored.node_at.Reads as node-at-reads
+use Rattle.node_store.proofs.stored.node_at.Reads as node-at-reads
 use Rattle.text_writing.proofs.children.child_of.Reads as child-of-reads
 use Rattle.text_writing.proofs.children.close_child.Reads as close-child-reads
 use Rattle.text_writing.proofs.children.open_child.Reads as open-child-reads

@@ -1,6 +1,6 @@
 -- 1 and 2 are the verdict's; what follows them is that of `display_root`.
 use Rattle.display.proofs.Replies.{display-refused, display-done}
-use Rattle.arena.proofs.Verdicts.{lent-known}
+use Rattle.soundness.proofs.Verdicts.{lent-known}
 use borrow.Author.Needs.{needs}
 use Rattle.display.proofs.display.Statement.{statement}
 use Rattle.display.proofs.display.Tie as tie

@@ -7,12 +7,12 @@ use borrow.Fn.PlainCycle.{Measures, is, falls, and}
 use Rattle.free_vars.proofs.collect.Reads as collect
 use Rattle.free_vars.proofs.collect.Kinds as collect-kinds
 use Rattle.free_vars.proofs.+collect.Lts-collect as collect-lts
-use Rattle.arena.proofs.stored.node_at.Reads as node-at-reads
+use Rattle.node_store.proofs.stored.node_at.Reads as node-at-reads
 use Rattle.bits.proofs.put.Reads as put-reads
 use Rattle.bits.proofs.test.Reads as test-reads
 use Rattle.free_vars.proofs.add_var.Reads as add-var-reads
-use Rattle.walks.proofs.children.child_at.Reads as child-at-reads
-use Rattle.walks.proofs.children.child_count.Reads as child-count-reads
+use Rattle.node_reading.proofs.children.child_at.Reads as child-at-reads
+use Rattle.node_reading.proofs.children.child_count.Reads as child-count-reads
 use Rattle.words.proofs.arc_ty.Head.kind.Reads as kind-reads
 use Rattle.words.proofs.arc_ty.wide.Reads as wide-reads
 use Rattle.free_vars.proofs.+collect.{statement}

@@ -1,6 +1,6 @@
 -- 1 and 2 are the verdict's; what follows them is that of `free_type_vars_in`.
 use Rattle.free_vars.proofs.Replies.{answer-refused, answer-done}
-use Rattle.arena.proofs.Verdicts.{lent-known}
+use Rattle.soundness.proofs.Verdicts.{lent-known}
 use borrow.Author.Needs.{needs}
 use Rattle.free_vars.proofs.free_type_vars.Statement.{statement}
 use Rattle.free_vars.proofs.free_type_vars.Tie as tie

@@ -47,10 +47,11 @@ use Rattle.types.specs.Reply.{reply}
 use Rattle.types.specs.declared.Counters.{Counters}
 use Rattle.types.proofs.Counters as T
 use Rattle.types.proofs.Counters.Laws as T′
-use Rattle.arena.specs.Intern.{intern-reply, left}
-use Rattle.arena.specs.declared.added.Interned.{Interned}
-use Rattle.arena.proofs.added.Interned as I
-use Rattle.arena.proofs.added.Interned.Laws as I′
+use Rattle.node_store.specs.Intern.{left}
+use Rattle.arena.specs.Intern.{intern-reply}
+use Rattle.node_store.specs.declared.added.Interned.{Interned}
+use Rattle.node_store.proofs.added.Interned as I
+use Rattle.node_store.proofs.added.Interned.Laws as I′
 use Rattle.arena.proofs.intern as intern
 use Rattle.arena.proofs.intern.Symbol as intern-def
 use Rattle.arena.proofs.intern.Symbol.{name as #arena·intern}

@@ -3,9 +3,6 @@ use Rattle.recursion.proofs.Remembering.{entry-is}
 use borrow.Author.Needs.{needs}
 use Rattle.recursion.proofs.cached.Statement.{statement}
 use Rattle.recursion.proofs.cached.Tie as tie
-use Rattle.recursion.proofs.cached.Reads as reads
-use Rattle.recursion.proofs.cached.Lts as lts
-use Rattle.words.proofs.arc_ty.wide.Reads as wide-reads
 
 -- src/lib.rt:21:11
 wide-requires : tie.Need-wide-requires

@@ -3,9 +3,6 @@ use Rattle.recursion.proofs.Remembering.{entry-written}
 use borrow.Author.Needs.{needs}
 use Rattle.recursion.proofs.remember.Statement.{statement}
 use Rattle.recursion.proofs.remember.Tie as tie
-use Rattle.recursion.proofs.remember.Reads as reads
-use Rattle.recursion.proofs.remember.Lts as lts
-use Rattle.words.proofs.arc_ty.wide.Reads as wide-reads
 
 -- src/lib.rt:29:22
 add-cache : tie.Need-add-cache

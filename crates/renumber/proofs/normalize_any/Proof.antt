@@ -1,5 +1,5 @@
 -- 1 and 2 are the verdict's; what follows them is that of `normalize_lent`.
-use Rattle.arena.proofs.Verdicts.{lent-known}
+use Rattle.soundness.proofs.Verdicts.{lent-known}
 use Rattle.recursion.proofs.Hosts.{host-refused, host-done}
 use borrow.Author.Needs.{needs}
 use Rattle.renumber.proofs.normalize_any.Statement.{statement}

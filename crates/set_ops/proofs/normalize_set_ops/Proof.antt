@@ -1,5 +1,5 @@
 -- The order of refusals: 1, 2, then what the run in a sound arena gives.
-use Rattle.arena.proofs.Verdicts.{lent-known}
+use Rattle.soundness.proofs.Verdicts.{lent-known}
 use Rattle.recursion.proofs.Hosts.{host-done, host-refused}
 use borrow.Author.Needs.{needs}
 use Rattle.set_ops.proofs.normalize_set_ops.Statement.{statement}

@@ -31,7 +31,7 @@ use Rattle.set_op_lists.proofs.bring.Reads as bring-reads
 use Rattle.set_op_lists.proofs.close_list.Reads as close-list-reads
 use Rattle.set_ops_pass.proofs.member_at.Reads as member-at-reads
 use Rattle.set_ops_pass.proofs.member_count.Reads as member-count-reads
-use Rattle.walks.proofs.nodes.kind_at.Reads as kind-at-reads
+use Rattle.node_reading.proofs.nodes.kind_at.Reads as kind-at-reads
 use Rattle.words.proofs.arc_ty.wide.Reads as wide-reads
 use Rattle.set_ops_pass.proofs.+flatten_set_op_cached+normalize_each+normalize_set_ops_cached+normalize_set_ops_uncached.{
   statement,

@@ -1,5 +1,5 @@
 -- 1 and 2 are the verdict's; what follows them is that of `simplify_lent`.
-use Rattle.arena.proofs.Verdicts.{lent-known}
+use Rattle.soundness.proofs.Verdicts.{lent-known}
 use Rattle.simplify.proofs.Hosts.{host-refused, host-done}
 use borrow.Author.Needs.{needs}
 use Rattle.simplify.proofs.simplify.Statement.{statement}

@@ -27,7 +27,7 @@ use Rattle.rebuilding.proofs.children.all_children.Reads as all-children-reads
 use Rattle.member_lists.proofs.close_list.Reads as close-list-reads
 use Rattle.rebuilding.proofs.node.rebuild.Reads as rebuild-reads
 use Rattle.rebuilding.proofs.children.remaining.Reads as remaining-reads
-use Rattle.walks.proofs.nodes.kind_at.Reads as kind-at-reads
+use Rattle.node_reading.proofs.nodes.kind_at.Reads as kind-at-reads
 use Rattle.words.proofs.arc_ty.wide.Reads as wide-reads
 use Rattle.pass.proofs.apply.+apply_each+apply_list+apply_simplification+apply_simplification_uncached.{
   statement,

@@ -2,7 +2,7 @@
 use Prim.Native.Nat.{_-_}
 use lib.ListN.{take}
 use Rattle.types.specs.Fault.{children-in}
-use Rattle.arena.proofs.Loops.{Agree}
+use Rattle.node_store.proofs.Loops.{Agree}
 use Rattle.rebuilding.proofs.Exchanging.{same-start, same-in, same-item, same-more, same-fails, same-done}
 use borrow.Author.Needs.{needs}
 use Rattle.rebuilding.proofs.node.same_children.Statement.{statement}

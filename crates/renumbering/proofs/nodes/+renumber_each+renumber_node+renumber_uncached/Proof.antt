@@ -24,7 +24,7 @@ use Rattle.recursion.proofs.cached.Reads as cached-reads
 use Rattle.recursion.proofs.item_at.Reads as item-at-reads
 use Rattle.recursion.proofs.remember.Reads as remember-reads
 use Rattle.renumbering.proofs.vars.renumber_var.Reads as renumber-var-reads
-use Rattle.walks.proofs.nodes.kind_at.Reads as kind-at-reads
+use Rattle.node_reading.proofs.nodes.kind_at.Reads as kind-at-reads
 use Rattle.words.proofs.arc_ty.wide.Reads as wide-reads
 use Rattle.renumbering.proofs.nodes.+renumber_each+renumber_node+renumber_uncached.{statement}
 use Rattle.renumbering.proofs.nodes.+renumber_each+renumber_node+renumber_uncached.Tie.{close}

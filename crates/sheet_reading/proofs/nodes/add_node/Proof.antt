@@ -1,5 +1,5 @@
 -- A fault is the answer; words without one are a node's, and a number below the count is that of a repeated node.
-use Rattle.arena.proofs.Answers.{words-fresh}
+use Rattle.node_store.proofs.Additions.{words-fresh}
 use Rattle.sheet_reading.proofs.Adding.{add-fault, add-refused, add-old, add-new}
 use borrow.Author.Needs.{needs}
 use Rattle.sheet_reading.proofs.nodes.add_node.Statement.{statement}

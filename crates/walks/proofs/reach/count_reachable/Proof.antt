@@ -1,6 +1,6 @@
 -- 1 and 2 are the verdict's; what follows them is that of `count_in`.
 use Rattle.walks.proofs.Asking.{ask-refused, ask-done}
-use Rattle.arena.proofs.Verdicts.{lent-known}
+use Rattle.soundness.proofs.Verdicts.{lent-known}
 use borrow.Author.Needs.{needs}
 use Rattle.walks.proofs.reach.count_reachable.Statement.{statement}
 use Rattle.walks.proofs.reach.count_reachable.Tie as tie

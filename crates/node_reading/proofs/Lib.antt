@@ -1,0 +1,2 @@
+pub mod Offspring
+pub mod NodeReads

@@ -1,0 +1,20 @@
+-- A lambda has two children, and a named type and `Neg` one.
+use Rattle.node_reading.proofs.NodeReads.{parent-here, child-there, child-read}
+use borrow.Author.Needs.{needs}
+use Rattle.node_reading.proofs.nodes.first_child.Statement.{statement}
+use Rattle.node_reading.proofs.nodes.first_child.Tie as tie
+
+node-at-requires : tie.Need-node-at-requires
+node-at-requires c κs = search parent-here
+
+child-at-requires : tie.Need-child-at-requires
+child-at-requires c κs = search child-there
+
+wide-requires : tie.Need-wide-requires
+wide-requires c κs = search needs
+
+returns : tie.Need-returns
+returns c = search child-read
+
+pub first-child-spec : {M : Type 1} → statement M
+first-child-spec = tie.close (tie.spec node-at-requires child-at-requires wide-requires returns)

@@ -1,0 +1,5 @@
+pub mod Loops
+pub mod Stretches
+pub mod Searches
+pub mod Additions
+pub mod Interning

@@ -1,0 +1,4 @@
+pub mod Hashes
+pub mod Zeros
+pub mod Checks
+pub mod Verdicts
