@@ -1,0 +1,9 @@
+pub mod Telling
+pub mod Lists
+pub mod Unwrapping
+pub mod Numbers
+pub mod Passes
+pub mod Works
+pub mod Successes
+pub mod TellingArenas
+pub mod Copies

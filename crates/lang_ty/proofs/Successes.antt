@@ -1,0 +1,138 @@
+-- 0 means success, of every call that can be refused: after the numbers that calls share, 1, 2 and 6, come those of the call's own.
+use Prim.Native.Nat.{ℕ, min}
+use native.Mathlib.Omega.{arith}
+use mathlib.Core.Path.{_≡_}
+use mathlib.Core.List.{List, []}
+use lib.ListN.{length}
+use lib.Dec.{leb}
+use Rattle.types.specs.Out.{Out, ok, refuse}
+use Rattle.types.specs.Node.{tag, names, guess, is-words, linked, rising, decode}
+use Rattle.types.specs.Arena.{Arena, at}
+use Rattle.types.specs.Memory.{arena-of}
+use Rattle.types.specs.Reply.{Reply, reply, reply-of, tabled, judged}
+use Rattle.types.specs.declared.Counters.{Counters}
+use Rattle.names.specs.Table.{Name, split, names-of}
+use Rattle.names.specs.Reply.{table-reply}
+use Rattle.node_order.specs.NodeOrder.{node-order}
+use Rattle.arena.specs.Intern.{interning, intern-reply}
+use Rattle.arena.specs.Compare.{comparing, compare-reply}
+use Rattle.walks.specs.Asked.{asking, ask-reply}
+use Rattle.equal.specs.Equal.{equal}
+use Rattle.equal.specs.Reply.{lent-to, equal-roots, equal-reply}
+use Rattle.text_writing.specs.Text.{type-text}
+use Rattle.display.specs.Reply.{displaying, display-reply, reply-of as display-of}
+use Rattle.recursion.proofs.Answers.{ok-refuse}
+use Rattle.recursion.specs.Hosted.{Work, work-reply}
+use Rattle.renumber.specs.Renumber.{normalize}
+use Rattle.set_op_lists.specs.SetOps.{normalize-set-ops}
+use Rattle.simplify.specs.Simplify.{answered, simplify-reply}
+use Rattle.compact.specs.Compact.{over-limit, limited, cleared, empty, source, compacted, compact-reply}
+use Rattle.lang_ty.specs.Told.{as-number, told, tell, told-arena, tell-arena}
+use Rattle.lang_ty.specs.Numbered.{Numbered, value, refusal, answer-of, length-of, ZeroIsValue, AllNumbered}
+use Rattle.lang_ty.proofs.Numbers.{NumberedJob, refusal-high, by-test, required-numbered, then-numbered, rooted-numbered, intern-numbered}
+use Rattle.lang_ty.proofs.Passes.{simplify-numbered}
+use Rattle.lang_ty.proofs.Works.{normalize-numbered, set-ops-numbered, copy-numbered}
+
+-- ---- 1 and 2
+module _ {A : Type 0} (t w s : List ℕ) (c : Counters) {f : List Name → Arena → Out A} (h : (ns : List Name) (a : Arena) → Numbered (f ns a)) where
+  lent-numbered : Numbered (tabled (names-of t) (λ (ns : List Name). judged (length ns) w s c (f ns)))
+  unfolding tabled judged
+  lent-numbered = required-numbered (omega arith) (names-of t) (λ ns. required-numbered (omega arith) (arena-of (length ns) w s c) (h ns))
+
+-- what is answered and left
+reply-numbered : {A : Type 0} (w s : List ℕ) (c : Counters) {o : Out (A × Arena)} → Numbered o → Numbered (answer-of (reply-of w s c o))
+unfolding reply-of
+reply-numbered w s c (value r) = value (r .0)
+reply-numbered w s c (refusal l) = refusal l
+
+-- ---- calls that only read
+pub table-numbered : (t : List ℕ) → Numbered (table-reply t)
+unfolding table-reply
+table-numbered t = required-numbered (omega arith) (names-of t) (λ ns. value (length ns))
+
+pub compare-numbered : (t w s : List ℕ) (c : Counters) (m n : ℕ) → Numbered (compare-reply t w s c m n)
+unfolding compare-reply comparing
+compare-numbered t w s c m n = lent-numbered t w s c (λ ns. rooted-numbered m (rooted-numbered n (λ a. value (node-order (at a m) (at a n)))))
+
+pub ask-numbered : {A : Type 0} (q : Arena → ℕ → A) (t w s : List ℕ) (c : Counters) (root : ℕ) → Numbered (ask-reply q t w s c root)
+unfolding ask-reply asking
+ask-numbered q t w s c root = lent-numbered t w s c (λ ns. rooted-numbered root (λ a. value (q a root)))
+
+pub equal-numbered : (t w s : List ℕ) (c : Counters) (m : ℕ) (u v r : List ℕ) (d : Counters) (n : ℕ) → Numbered (equal-reply t w s c m u v r d n)
+unfolding equal-reply lent-to equal-roots
+equal-numbered t w s c m u v r d n =
+    lent-numbered t w s c (λ ns a. lent-numbered u v r d (λ ms b. rooted-numbered m (λ x. rooted-numbered n (λ y. value (equal ns x m ms y n)) b) a))
+
+-- 9 comes last
+display-of-numbered : (b : List ℕ) {o : Out (List ℕ)} → Numbered o → Numbered (length-of (display-of b o))
+unfolding display-of displaying
+display-of-numbered b (value x) = by-test (λ r. Numbered (length-of r)) (leb (length x) (min (length b) 65536)) (value (length x)) (refusal (omega arith))
+display-of-numbered b (refusal l) = refusal l
+
+pub display-numbered : (t w s : List ℕ) (c : Counters) (root : ℕ) (b : List ℕ) → Numbered (length-of (display-reply t w s c root b))
+unfolding display-reply
+display-numbered t w s c root b = display-of-numbered b (ask-numbered (type-text (split t)) t w s c root)
+
+-- an answer told as a number
+pub as-number-numbered : {A : Type 0} (f : A → ℕ) {o : Out A} → Numbered o → Numbered (as-number f o)
+as-number-numbered f N = then-numbered N (λ x. value (f x))
+
+-- ---- calls that change an arena
+decode-numbered : (table nodes : ℕ) (ws : List ℕ) → Numbered (decode table nodes ws)
+unfolding decode
+decode-numbered table nodes ws =
+    by-test Numbered (is-words ws (guess ws))
+    (by-test Numbered (linked table nodes (guess ws)) (by-test Numbered (rising (names (tag (guess ws)))) (value (guess ws)) (refusal (omega arith))) (refusal (omega arith)))
+    (refusal (omega arith))
+
+pub intern-reply-numbered : (t w s : List ℕ) (c : Counters) (ws : List ℕ) → Numbered (answer-of (intern-reply t w s c ws))
+unfolding intern-reply interning
+intern-reply-numbered t w s c ws = reply-numbered w s c (lent-numbered t w s c (λ ns a. then-numbered (decode-numbered (length ns) (length a) ws) (λ x. intern-numbered (length w) (length s) x a)))
+
+pub simplify-reply-numbered : (t w s : List ℕ) (c : Counters) (root : ℕ) → Numbered (answer-of (simplify-reply t w s c root))
+unfolding simplify-reply answered
+simplify-reply-numbered t w s c root =
+    reply-numbered w s c (lent-numbered t w s c (λ ns. rooted-numbered root (λ a. then-numbered (simplify-numbered (length w) (length s) root a) (λ q. value (record { root = q .root; made = length (q .taken) }, q .arena)))))
+
+work-numbered : (f : Work) → ((words starts root : ℕ) → NumberedJob (f words starts root)) → (t w s : List ℕ) (c : Counters) (root : ℕ) → Numbered (answer-of (work-reply f t w s c root))
+unfolding work-reply
+work-numbered f h t w s c root = reply-numbered w s c (lent-numbered t w s c (λ ns. rooted-numbered root (h (length w) (length s) root)))
+
+-- ---- `compact`, whose target may be over a limit
+source-numbered : (t w s : List ℕ) (c : Counters) (root : ℕ) (tw ts : List ℕ) → Numbered (source t w s c root tw ts)
+unfolding source limited
+source-numbered t w s c root tw ts = lent-numbered t w s c (λ ns u. by-test Numbered (over-limit tw ts) (refusal (omega arith)) (rooted-numbered root (λ a. value a) u))
+
+compacted-numbered : (root : ℕ) (tw ts : List ℕ) (d : Counters) {o : Out Arena} → Numbered o → Numbered (answer-of (compacted root tw ts d o))
+unfolding compacted
+compacted-numbered root tw ts d (value u) = reply-numbered (cleared tw) (cleared ts) empty (copy-numbered (length tw) (length ts) u root [])
+compacted-numbered root tw ts d (refusal l) = refusal l
+
+pub compact-numbered : (t w s : List ℕ) (c : Counters) (root : ℕ) (tw ts : List ℕ) (d : Counters) → Numbered (answer-of (compact-reply t w s c root tw ts d))
+unfolding compact-reply
+compact-numbered t w s c root tw ts d = compacted-numbered root tw ts d (source-numbered t w s c root tw ts)
+
+-- ---- all of them
+pub all-numbered : AllNumbered
+all-numbered = record {
+  table = table-numbered;
+  compare = compare-numbered;
+  ask = ask-numbered;
+  equal = equal-numbered;
+  display = display-numbered;
+  intern = intern-reply-numbered;
+  simplify = simplify-reply-numbered;
+  normalize-vars = λ replacing. work-numbered (normalize replacing) (λ words starts. normalize-numbered words starts replacing);
+  normalize-set-ops = work-numbered normalize-set-ops set-ops-numbered;
+  compact = compact-numbered;
+}
+
+-- ---- what a host knows of the number that it is told
+pub told-zero : {A : Type 0} (old : A) (o : Out A) → Numbered o → {r : ℕ} {x : A} → told r x ≡ tell old o → ZeroIsValue r x o
+told-zero old (ok y) N e = record { zero = λ q. cc; value = λ z q. cc }
+told-zero old (refuse n) N {r = r} e =
+    let p : r ≡ n = cc in
+    record { zero = λ q. absurd (omega (arith, p, q, refusal-high N)); value = λ z q. absurd (ok-refuse q) }
+
+pub arena-zero : {A : Type 0} (old : A) (y : Reply A) → Numbered (answer-of y) → {r : ℕ} {x : A} {d : Counters} {w s : List ℕ} → told-arena r x d w s ≡ tell-arena old y → ZeroIsValue r x (answer-of y)
+arena-zero old (reply o c v u) N e = told-zero old o N (cc)

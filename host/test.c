@@ -1,0 +1,580 @@
+/* Calls every function of lang_ty.h and checks its answer, its results and all lent memory. What is expected was worked out
+ * by hand from document 01. Each call is told on standard output by its name and its answer, so that host/test-c sees which
+ * were made. */
+#include "lang_ty.h"
+
+#include <inttypes.h>
+#include <stdio.h>
+#include <stdlib.h>
+#include <string.h>
+
+#define COUNT(array) (sizeof(array) / sizeof *(array))
+
+static int failures;
+
+static void check(int line, const char *what, uint64_t got, uint64_t want)
+{
+    if (got != want) {
+        fprintf(stderr, "%s:%d: %s: %" PRIu64 ", not %" PRIu64 "\n", __FILE__, line, what, got, want);
+        failures++;
+    }
+}
+
+static void check_bytes(int line, const char *what, const void *got, const void *want, size_t size)
+{
+    const uint8_t *left = got, *right = want;
+    size_t at = 0;
+    while (at < size && left[at] == right[at])
+        at++;
+    if (at < size) {
+        fprintf(stderr, "%s:%d: %s: byte %zu is %d, not %d\n", __FILE__, line, what, at, left[at], right[at]);
+        failures++;
+    }
+}
+
+static uint32_t told(const char *name, uint32_t answer)
+{
+    printf("%s %" PRIu32 "\n", name, answer);
+    return answer;
+}
+
+#define TOLD(call, ...) told(#call, call(__VA_ARGS__))
+
+static void *room(size_t size)
+{
+    void *made = calloc(size ? size : 1, 1); /* of this size, so that valgrind sees what lies past it */
+    if (!made)
+        exit(2);
+    return made;
+}
+
+/* Words, and how many. */
+struct list {
+    const uint32_t *at;
+    size_t count;
+};
+
+#define WORDS(...) {(const uint32_t[]){__VA_ARGS__}, COUNT(((const uint32_t[]){__VA_ARGS__}))}
+
+/* The words of a node. */
+#define HEAD(kind, count) ((uint32_t)(kind) << 28 | (uint32_t)(count))
+#define FIELD(name, child) ((uint32_t)(name) << 23 | (uint32_t)(child))
+#define NULL_TYPE HEAD(2, 1), 0
+#define BOOL HEAD(2, 1), 1
+#define INT HEAD(2, 1), 2
+#define VAR(index) HEAD(3, 1), index
+#define LAMBDA(param, body) HEAD(5, 2), param, body
+#define SET(count) HEAD(6, count)
+#define UNION(count) HEAD(7, count)
+#define INTERSECTION(count) HEAD(8, count)
+#define NAMED(name, child) HEAD(9, 1), FIELD(name, child)
+#define UNKNOWN 4294967295u
+
+/* What a host lends: a name table and an arena. No byte of a table is 0. */
+struct host {
+    const uint8_t *table;
+    size_t table_len;
+    uint32_t *words;
+    size_t words_len;
+    uint32_t *starts;
+    size_t starts_len;
+    size_t nodes, used;
+};
+
+#define LENT(h) (h)->table, (h)->table_len, (h)->words, (h)->words_len, (h)->starts, (h)->starts_len
+#define READ(h) LENT(h), (h)->nodes, (h)->used
+#define CHANGED(h) LENT(h), &(h)->nodes, &(h)->used
+
+static void put_nodes(struct host *h, struct list nodes)
+{
+    for (size_t at = 0; at < nodes.count; at += 1 + (nodes.at[at] & 0xffff))
+        h->starts[h->nodes++] = (uint32_t)(h->used + at);
+    memcpy(h->words + h->used, nodes.at, nodes.count * sizeof *nodes.at);
+    h->used += nodes.count;
+}
+
+static size_t node_count(struct list nodes)
+{
+    size_t count = 0;
+    for (size_t at = 0; at < nodes.count; at += 1 + (nodes.at[at] & 0xffff))
+        count++;
+    return count;
+}
+
+/* An arena of these nodes with so many words and starts to spare. */
+static struct host lend(const char *table, struct list nodes, size_t spare_words, size_t spare_starts)
+{
+    struct host h = {.table = (const uint8_t *)table, .table_len = strlen(table)};
+    h.words_len = nodes.count + spare_words;
+    h.starts_len = node_count(nodes) + spare_starts;
+    h.words = room(h.words_len * sizeof *h.words);
+    h.starts = room(h.starts_len * sizeof *h.starts);
+    put_nodes(&h, nodes);
+    return h;
+}
+
+static void give_back(struct host *h)
+{
+    free(h->words);
+    free(h->starts);
+}
+
+/* All that a call may write besides the arena that it changes. Before a call every byte is 0xa5. */
+struct results {
+    uint32_t number, passes;
+    size_t length;
+    uint32_t vars[LANG_TY_VARS];
+    uint8_t text[32];
+    size_t target_nodes, target_used;
+    uint32_t target_words[LANG_TY_WORDS + 1], target_starts[LANG_TY_STARTS + 1];
+};
+
+/* Which results a call writes. */
+enum { NUMBER = 1, PASSES = 2, VARS = 4, TEXT = 8, TARGET = 16 };
+
+struct row;
+
+struct call {
+    uint32_t (*make)(const struct row *row, struct host *h, struct results *r);
+    unsigned writes;
+};
+
+/* A call with its arguments, its answer and its results. */
+struct row {
+    int line;
+    const struct call *call;
+    const char *table;
+    struct list given;
+    uint32_t root;
+    size_t spare_words, spare_starts;
+
+    struct list node;          /* of intern */
+    uint32_t other;            /* of compare, and the right root of structurally_eq */
+    const char *right_table;   /* of structurally_eq */
+    struct list right;
+    size_t text_lent;          /* of display */
+    size_t target_words, target_starts; /* of compact: how many are lent */
+
+    uint32_t answer;
+    uint32_t number, passes;
+    struct list added; /* nodes behind those given */
+    struct list vars, target;
+    const char *text;
+};
+
+/* The calls on a root that write one number. */
+#define READS_ROOT(name) \
+    static uint32_t make_##name(const struct row *row, struct host *h, struct results *r) \
+    { \
+        return TOLD(lang_ty_##name, READ(h), row->root, &r->number); \
+    } \
+    static const struct call name = {make_##name, NUMBER};
+
+#define CHANGES_ROOT(name) \
+    static uint32_t make_##name(const struct row *row, struct host *h, struct results *r) \
+    { \
+        return TOLD(lang_ty_##name, CHANGED(h), row->root, &r->number); \
+    } \
+    static const struct call name = {make_##name, NUMBER};
+
+READS_ROOT(count_reachable)
+READS_ROOT(unwrap_named)
+READS_ROOT(has_type_vars)
+READS_ROOT(needs_var_normalization)
+READS_ROOT(contains_bare_tyvar)
+READS_ROOT(has_shared_tyvar_across_lambda_params)
+CHANGES_ROOT(normalize_vars)
+CHANGES_ROOT(normalize_replacing_unknown)
+CHANGES_ROOT(normalize_set_ops)
+
+static uint32_t make_compare(const struct row *row, struct host *h, struct results *r)
+{
+    return TOLD(lang_ty_compare, READ(h), row->root, row->other, &r->number);
+}
+static const struct call compare = {make_compare, NUMBER};
+
+static uint32_t make_free_type_vars(const struct row *row, struct host *h, struct results *r)
+{
+    return TOLD(lang_ty_free_type_vars, READ(h), row->root, r->vars, &r->length);
+}
+static const struct call free_type_vars = {make_free_type_vars, VARS};
+
+static uint32_t make_structurally_eq(const struct row *row, struct host *h, struct results *r)
+{
+    struct host right = lend(row->right_table ? row->right_table : "", row->right, 0, 0);
+    uint32_t answer = TOLD(lang_ty_structurally_eq, READ(h), row->root, READ(&right), row->other, &r->number);
+    give_back(&right);
+    return answer;
+}
+static const struct call structurally_eq = {make_structurally_eq, NUMBER};
+
+static uint32_t make_display(const struct row *row, struct host *h, struct results *r)
+{
+    return TOLD(lang_ty_display, READ(h), row->root, r->text, row->text_lent, &r->length);
+}
+static const struct call display = {make_display, TEXT};
+
+static uint32_t make_intern(const struct row *row, struct host *h, struct results *r)
+{
+    static const uint32_t none;
+    const uint32_t *node = row->node.count ? row->node.at : &none;
+    return TOLD(lang_ty_intern, CHANGED(h), node, row->node.count, &r->number);
+}
+static const struct call intern = {make_intern, NUMBER};
+
+static uint32_t make_simplify(const struct row *row, struct host *h, struct results *r)
+{
+    return TOLD(lang_ty_simplify, CHANGED(h), row->root, &r->number, &r->passes);
+}
+static const struct call simplify = {make_simplify, NUMBER | PASSES};
+
+static uint32_t make_compact(const struct row *row, struct host *h, struct results *r)
+{
+    return TOLD(lang_ty_compact, READ(h), row->root, r->target_words, row->target_words, r->target_starts,
+                row->target_starts, &r->target_nodes, &r->target_used, &r->number);
+}
+static const struct call compact = {make_compact, NUMBER | TARGET};
+
+/* The row's nodes, and zeros past them, in all that is lent of the target. */
+static void expect_target(const struct row *row, struct results *r)
+{
+    struct host made = lend("", row->target, row->target_words, row->target_starts);
+    memcpy(r->target_words, made.words, row->target_words * sizeof *made.words);
+    memcpy(r->target_starts, made.starts, row->target_starts * sizeof *made.starts);
+    r->target_nodes = made.nodes;
+    r->target_used = made.used;
+    give_back(&made);
+}
+
+/* The results that the row says, over what stood there. */
+static void expect(const struct row *row, struct results *r)
+{
+    unsigned writes = row->answer == 0 ? row->call->writes : 0;
+    if (writes & NUMBER)
+        r->number = row->number;
+    if (writes & PASSES)
+        r->passes = row->passes;
+    if (writes & VARS) {
+        memset(r->vars, 0, sizeof r->vars);
+        if (row->vars.count)
+            memcpy(r->vars, row->vars.at, row->vars.count * sizeof *r->vars);
+        r->length = row->vars.count;
+    }
+    if (writes & TEXT) {
+        r->length = strlen(row->text);
+        memcpy(r->text, row->text, r->length);
+    }
+    if (row->answer == 9)
+        memset(r->text, 0, row->text_lent);
+    if (row->call->writes & TARGET && (row->answer == 0 || row->answer == 7))
+        expect_target(row, r);
+}
+
+static void check_results(int line, const struct results *got, const struct results *want)
+{
+    check(line, "number", got->number, want->number);
+    check(line, "passes", got->passes, want->passes);
+    check(line, "length", got->length, want->length);
+    check_bytes(line, "vars", got->vars, want->vars, sizeof want->vars);
+    check_bytes(line, "text", got->text, want->text, sizeof want->text);
+    check(line, "target_nodes", got->target_nodes, want->target_nodes);
+    check(line, "target_used", got->target_used, want->target_used);
+    check_bytes(line, "target_words", got->target_words, want->target_words, sizeof want->target_words);
+    check_bytes(line, "target_starts", got->target_starts, want->target_starts, sizeof want->target_starts);
+}
+
+static void check_host(int line, const struct host *got, const struct host *want)
+{
+    check(line, "nodes", got->nodes, want->nodes);
+    check(line, "used", got->used, want->used);
+    check_bytes(line, "words", got->words, want->words, want->words_len * sizeof *want->words);
+    check_bytes(line, "starts", got->starts, want->starts, want->starts_len * sizeof *want->starts);
+}
+
+static void run(const struct row *row)
+{
+    const char *table = row->table ? row->table : "";
+    struct host got = lend(table, row->given, row->spare_words, row->spare_starts);
+    struct host want = lend(table, row->given, row->spare_words, row->spare_starts);
+    if (row->added.count)
+        put_nodes(&want, row->added);
+    struct results *results = room(2 * sizeof *results);
+    memset(results, 0xa5, 2 * sizeof *results);
+    expect(row, &results[1]);
+    check(row->line, "answer", row->call->make(row, &got, &results[0]), row->answer);
+    check_results(row->line, &results[0], &results[1]);
+    check_host(row->line, &got, &want);
+    free(results);
+    give_back(&got);
+    give_back(&want);
+}
+
+/* U[a, int] is node 2; F[a, U[a, int]] is node 3. */
+#define A_OR_INT WORDS(VAR(0), INT, UNION(2), 0, 1, LAMBDA(0, 2))
+/* F[h, U[d, h]] is node 3. */
+#define H_TO_D_OR_H WORDS(VAR(7), VAR(3), UNION(2), 1, 0, LAMBDA(0, 2))
+/* Two sets over F[a, int] and F[a, bool]: node 3 has the first twice, node 6 has both. */
+#define P_AND_Q "\1p\1q"
+#define SHARED \
+    WORDS(VAR(0), INT, LAMBDA(0, 1), SET(2), FIELD(0, 2), FIELD(1, 2), BOOL, LAMBDA(0, 4), SET(2), FIELD(0, 2), FIELD(1, 5))
+/* Target stands for Line, which stands for int. */
+#define LINE_AND_TARGET "\4Line\6Target"
+#define TARGET_TYPE WORDS(INT, NAMED(0, 0), NAMED(1, 1))
+/* U[int, null, a] is node 3: what it becomes is a new node. */
+#define INT_NULL_A WORDS(INT, NULL_TYPE, VAR(0), UNION(3), 0, 1, 2)
+/* I[U[a, b], int] is node 4. */
+#define A_OR_B_AND_INT WORDS(VAR(0), VAR(1), UNION(2), 0, 1, INT, INTERSECTION(2), 2, 3)
+/* U[int, null, U[null, bool]] is node 4. */
+#define UNSORTED WORDS(INT, NULL_TYPE, BOOL, UNION(2), 1, 2, UNION(3), 0, 1, 3)
+/* U[f, int] is node 3; node 0 isn't reachable from it. */
+#define WITH_A_REST WORDS(NULL_TYPE, INT, VAR(5), UNION(2), 2, 1)
+#define COPIED WORDS(VAR(5), INT, UNION(2), 0, 1)
+#define TWICE WORDS(VAR(0), VAR(0))
+#define EMPTY_SETS WORDS(SET(0), SET(0) | 1u << 27)
+
+static const struct row reading[] = {
+#define ROW(what, ...) {.line = __LINE__, .call = &what, __VA_ARGS__}
+    ROW(compare, .given = A_OR_INT, .root = 1, .other = 2, .number = LANG_TY_LESS),
+    ROW(compare, .given = A_OR_INT, .root = 2, .other = 2, .number = LANG_TY_EQUAL),
+    ROW(compare, .given = A_OR_INT, .root = 0, .other = 1, .number = LANG_TY_GREATER),
+    ROW(compare, .given = A_OR_INT, .root = 0, .other = 4, .answer = 6),
+    ROW(count_reachable, .given = A_OR_INT, .root = 2, .number = 3),
+    ROW(count_reachable, .table = P_AND_Q, .given = SHARED, .root = 6, .number = 6),
+    ROW(unwrap_named, .table = LINE_AND_TARGET, .given = TARGET_TYPE, .root = 2, .number = 0),
+    ROW(unwrap_named, .given = A_OR_INT, .root = 2, .number = 2),
+    ROW(has_type_vars, .given = A_OR_INT, .root = 2, .number = 1),
+    ROW(has_type_vars, .given = A_OR_INT, .root = 1, .number = 0),
+    ROW(needs_var_normalization, .given = A_OR_INT, .root = 3, .number = 1),
+    ROW(needs_var_normalization, .given = A_OR_INT, .root = 1, .number = 0),
+    ROW(contains_bare_tyvar, .given = A_OR_INT, .root = 3, .number = 1),
+    ROW(contains_bare_tyvar, .table = P_AND_Q, .given = SHARED, .root = 6, .number = 0),
+    ROW(has_shared_tyvar_across_lambda_params, .table = P_AND_Q, .given = SHARED, .root = 3, .number = 0),
+    ROW(has_shared_tyvar_across_lambda_params, .table = P_AND_Q, .given = SHARED, .root = 6, .number = 1),
+    ROW(free_type_vars, .given = H_TO_D_OR_H, .root = 3, .vars = WORDS(7, 3)),
+    ROW(free_type_vars, .given = A_OR_INT, .root = 1),
+    ROW(structurally_eq, .table = "\1p", .given = WORDS(INT, SET(1), FIELD(0, 0)), .root = 1,
+        .right_table = "\1a\1p", .right = WORDS(BOOL, INT, SET(1), FIELD(1, 1)), .other = 2, .number = 1),
+    ROW(structurally_eq, .table = "\1p", .given = WORDS(INT, SET(1), FIELD(0, 0)), .root = 1,
+        .right_table = "\1a\1p", .right = WORDS(BOOL, INT, SET(1), FIELD(0, 1)), .other = 2, .number = 0),
+    ROW(structurally_eq, .given = A_OR_INT, .root = 4, .right_table = "\2p", .right = TWICE, .other = 9, .answer = 1),
+    ROW(structurally_eq, .given = A_OR_INT, .root = 4, .right = TWICE, .other = 9, .answer = 2),
+    ROW(structurally_eq, .given = TWICE, .right_table = "\2p", .answer = 2),
+    ROW(structurally_eq, .given = A_OR_INT, .root = 2, .right = A_OR_INT, .other = 4, .answer = 6),
+    ROW(display, .given = A_OR_INT, .root = 3, .text_lent = 32, .text = "a -> a | int"),
+    ROW(display, .table = P_AND_Q, .given = SHARED, .root = 3, .text_lent = 28, .text = "{ p: a -> int, q: a -> int }"),
+    ROW(display, .table = P_AND_Q, .given = SHARED, .root = 3, .text_lent = 27, .answer = 9),
+    ROW(display, .table = LINE_AND_TARGET, .given = TARGET_TYPE, .root = 2, .text_lent = 6, .text = "Target"),
+    ROW(display, .given = EMPTY_SETS, .root = 0, .text_lent = 5, .text = "{  }"),
+    ROW(display, .given = EMPTY_SETS, .root = 1, .text_lent = 9, .text = "{ ... }"),
+    ROW(display, .given = WORDS(VAR(UNKNOWN)), .text_lent = 0, .answer = 9),
+    ROW(compact, .given = WITH_A_REST, .root = 3, .target_words = 12, .target_starts = 6, .number = 2, .target = COPIED),
+    ROW(compact, .given = WITH_A_REST, .root = 3, .target_words = 7, .target_starts = 3, .number = 2, .target = COPIED),
+    ROW(compact, .given = WITH_A_REST, .root = 3, .target_words = 6, .target_starts = 3, .answer = 7),
+    ROW(compact, .given = WITH_A_REST, .root = 3, .target_words = 7, .target_starts = 2, .answer = 7),
+    ROW(compact, .given = WITH_A_REST, .root = 4, .target_words = LANG_TY_WORDS + 1, .answer = 2),
+    ROW(compact, .given = WITH_A_REST, .root = 4, .target_starts = LANG_TY_STARTS + 1, .answer = 2),
+};
+
+/* Nodes 0 to 64 are int, [int], [[int]], .., node 65 the union of the first 64, node 66 that union and node 64, node 67 that
+ * union and node 63. */
+static uint32_t wide[130 + 65 + 3 + 3];
+/* All variables below 4,096: every start of an arena is used. */
+static uint32_t full[2 * LANG_TY_STARTS];
+
+static void fill(void)
+{
+    for (uint32_t k = 0; k <= 64; k++) {
+        wide[2 * k] = k == 0 ? HEAD(2, 1) : HEAD(4, 1);
+        wide[2 * k + 1] = k == 0 ? 2 : k - 1;
+    }
+    wide[130] = UNION(64);
+    for (uint32_t k = 0; k < 64; k++)
+        wide[131 + k] = k;
+    memcpy(wide + 195, (const uint32_t[]){UNION(2), 65, 64, UNION(2), 65, 63}, 6 * sizeof *wide);
+    for (uint32_t k = 0; k < LANG_TY_STARTS; k++)
+        memcpy(full + 2 * k, (const uint32_t[]){VAR(k)}, 2 * sizeof *full);
+}
+
+#define WIDE {wide, COUNT(wide)}
+#define FULL {full, COUNT(full)}
+#define ONE_LESS {full, COUNT(full) - 2}
+
+static const struct row changing[] = {
+    ROW(intern, .given = A_OR_INT, .node = WORDS(UNION(2), 0, 1), .number = 2),
+    ROW(intern, .given = A_OR_INT, .node = WORDS(VAR(1)), .spare_words = 4, .spare_starts = 3, .number = 4, .added = WORDS(VAR(1))),
+    ROW(intern, .given = A_OR_INT, .node = {full, 0}, .spare_words = 2, .spare_starts = 1, .answer = 3),
+    ROW(intern, .given = A_OR_INT, .node = WORDS(HEAD(11, 0)), .spare_words = 2, .spare_starts = 1, .answer = 3),
+    ROW(intern, .given = A_OR_INT, .node = WORDS(UNION(2), 0), .spare_words = 3, .spare_starts = 1, .answer = 3),
+    ROW(intern, .given = A_OR_INT, .node = WORDS(LAMBDA(0, 4)), .spare_words = 3, .spare_starts = 1, .answer = 4),
+    ROW(intern, .given = A_OR_INT, .node = WORDS(NAMED(0, 0)), .spare_words = 2, .spare_starts = 1, .answer = 4),
+    ROW(intern, .table = P_AND_Q, .given = SHARED, .node = WORDS(SET(2), FIELD(1, 0), FIELD(0, 0)), .spare_words = 3, .spare_starts = 1, .answer = 5),
+    ROW(intern, .given = A_OR_INT, .node = WORDS(VAR(1)), .spare_words = 1, .spare_starts = 1, .answer = 7),
+    ROW(intern, .given = ONE_LESS, .node = WORDS(VAR(4095)), .spare_words = 2, .spare_starts = 1, .number = 4095, .added = WORDS(VAR(4095))),
+    ROW(intern, .given = FULL, .node = WORDS(VAR(4096)), .spare_words = 2, .answer = 7),
+    ROW(intern, .given = FULL, .node = WORDS(VAR(77)), .number = 77),
+    ROW(intern, .given = FULL, .node = WORDS(VAR(77)), .spare_starts = 1, .answer = 2),
+    ROW(simplify, .given = A_OR_INT, .root = 2, .number = 1, .passes = 2),
+    ROW(simplify, .given = A_OR_INT, .root = 3, .number = 3, .passes = 2),
+    ROW(simplify, .given = INT_NULL_A, .root = 3, .spare_words = 5, .spare_starts = 2, .number = 4, .passes = 2, .added = WORDS(UNION(2), 0, 1)),
+    ROW(simplify, .given = INT_NULL_A, .root = 3, .spare_words = 2, .spare_starts = 1, .answer = 7),
+    ROW(simplify, .given = INT_NULL_A, .root = 3, .spare_words = 3, .answer = 7),
+    ROW(simplify, .given = A_OR_B_AND_INT, .root = 4, .spare_words = 4, .spare_starts = 1, .number = 3, .passes = 3,
+        .added = WORDS(INTERSECTION(2), 0, 3)),
+    ROW(simplify, .given = WIDE, .root = 66, .spare_words = 66, .spare_starts = 1, .answer = 8),
+    ROW(simplify, .given = WIDE, .root = 67, .number = 65, .passes = 2),
+    ROW(simplify, .given = A_OR_INT, .root = 2, .spare_words = LANG_TY_WORDS, .answer = 2),
+    ROW(normalize_vars, .given = H_TO_D_OR_H, .root = 3, .spare_words = 10, .spare_starts = 4, .number = 7,
+        .added = WORDS(VAR(0), VAR(1), UNION(2), 5, 4, LAMBDA(4, 6))),
+    ROW(normalize_vars, .given = H_TO_D_OR_H, .root = 3, .spare_words = 9, .spare_starts = 4, .answer = 7),
+    ROW(normalize_vars, .given = H_TO_D_OR_H, .root = 0, .spare_words = 2, .spare_starts = 1, .number = 4, .added = WORDS(VAR(0))),
+    ROW(normalize_replacing_unknown, .given = H_TO_D_OR_H, .root = 3, .spare_words = 11, .spare_starts = 5, .number = 7,
+        .added = WORDS(VAR(0), VAR(1), UNION(2), 5, 4, LAMBDA(4, 6))),
+    ROW(normalize_replacing_unknown, .given = H_TO_D_OR_H, .root = 0, .spare_words = 2, .spare_starts = 1, .number = 4, .added = WORDS(VAR(UNKNOWN))),
+    ROW(normalize_replacing_unknown, .given = H_TO_D_OR_H, .root = 0, .spare_words = 2, .answer = 7),
+    ROW(normalize_set_ops, .given = UNSORTED, .root = 4, .spare_words = 6, .spare_starts = 2, .number = 5, .added = WORDS(UNION(3), 1, 2, 0)),
+    ROW(normalize_set_ops, .given = UNSORTED, .root = 4, .spare_words = 3, .spare_starts = 1, .answer = 7),
+    ROW(normalize_set_ops, .given = WIDE, .root = 66, .spare_words = 66, .spare_starts = 1, .answer = 8),
+    ROW(normalize_set_ops, .given = WIDE, .root = 67, .number = 65),
+};
+
+/* What is refused alike by every call that is lent an arena, in the order of the numbers. Node 9 isn't there. */
+static const struct row faulty[] = {
+#define FAULT(...) {.line = __LINE__, .text_lent = 8, .target_words = 8, .target_starts = 4, .node = WORDS(VAR(9)), \
+                    .right = WORDS(VAR(0)), __VA_ARGS__}
+    FAULT(.table = "\2p", .given = TWICE, .root = 9, .answer = 1),
+    FAULT(.table = "\1q\1p", .given = A_OR_INT, .root = 2, .answer = 1),
+    FAULT(.given = TWICE, .root = 9, .answer = 2),
+    FAULT(.given = WORDS(NAMED(0, 0)), .root = 0, .answer = 2),
+    FAULT(.given = A_OR_INT, .root = 9, .answer = 6),
+};
+
+static const struct call *const all[] = {
+    &compare, &count_reachable, &unwrap_named, &has_type_vars, &needs_var_normalization, &contains_bare_tyvar,
+    &has_shared_tyvar_across_lambda_params, &free_type_vars, &structurally_eq, &display, &intern, &simplify,
+    &normalize_vars, &normalize_replacing_unknown, &normalize_set_ops, &compact,
+};
+
+static void run_faulty(const struct call *call)
+{
+    for (size_t k = 0; k < COUNT(faulty); k++) {
+        struct row row = faulty[k];
+        row.call = call;
+        if (call != &intern || row.answer != 6) /* intern is given no root */
+            run(&row);
+    }
+}
+
+/* Names end at a byte 0 here, which no name has. */
+static void check_tables(void)
+{
+    static char most[257 * 3 + 1]; /* 257 names of two bytes, which rise */
+    for (int k = 0; k < 257; k++)
+        memcpy(most + 3 * k, (const char[]){2, (char)(32 + k / 90), (char)(32 + k % 90)}, 3);
+    const struct {
+        int line;
+        const char *table;
+        size_t len;
+        uint32_t answer;
+        size_t count;
+    } tables[] = {
+        {__LINE__, "", 0, 0, 0},
+        {__LINE__, LINE_AND_TARGET, 12, 0, 2},
+        {__LINE__, most, 256 * 3, 0, 256},
+        {__LINE__, most, 257 * 3, 1, 0},
+        {__LINE__, "\1p\1p", 4, 1, 0},
+        {__LINE__, "\1\37", 2, 1, 0},
+        {__LINE__, "\0", 1, 1, 0},
+    };
+    for (size_t k = 0; k < COUNT(tables); k++) {
+        size_t count = 77;
+        uint32_t answer = TOLD(lang_ty_check_names, (const uint8_t *)tables[k].table, tables[k].len, &count);
+        check(tables[k].line, "answer", answer, tables[k].answer);
+        check(tables[k].line, "count", count, answer == 0 ? tables[k].count : 77);
+    }
+}
+
+static void check_names(void)
+{
+    static const struct {
+        int line;
+        const char *left, *right;
+        uint32_t order;
+    } names[] = {
+        {__LINE__, "p", "pitch", LANG_TY_LESS},
+        {__LINE__, "roll", "roll", LANG_TY_EQUAL},
+        {__LINE__, "q", "pitch", LANG_TY_GREATER},
+        {__LINE__, "", "p", LANG_TY_LESS},
+    };
+    for (size_t k = 0; k < COUNT(names); k++) {
+        const uint8_t *left = (const uint8_t *)names[k].left, *right = (const uint8_t *)names[k].right;
+        uint32_t order = 77;
+        uint32_t answer = TOLD(lang_ty_compare_names, left, strlen(names[k].left), right, strlen(names[k].right), &order);
+        check(names[k].line, "answer", answer, 0);
+        check(names[k].line, "order", order, names[k].order);
+    }
+}
+
+static void check_tyvar_names(void)
+{
+    static const struct {
+        int line;
+        uint32_t index;
+        char text[LANG_TY_TYVAR_NAME + 1];
+    } names[] = {
+        {__LINE__, 25, "z"},
+        {__LINE__, 26, "a1"},
+        {__LINE__, 4294967294, "u165191049"},
+        {__LINE__, UNKNOWN, "?"},
+    };
+    for (size_t k = 0; k < COUNT(names); k++) {
+        uint8_t text[LANG_TY_TYVAR_NAME + 1];
+        size_t length = 77;
+        memset(text, 0xa5, sizeof text);
+        check(names[k].line, "answer", TOLD(lang_ty_tyvar_name, names[k].index, text, &length), 0);
+        check(names[k].line, "length", length, strlen(names[k].text));
+        check_bytes(names[k].line, "text", text, names[k].text, LANG_TY_TYVAR_NAME);
+        check(names[k].line, "the byte past the text", text[LANG_TY_TYVAR_NAME], 0xa5);
+    }
+}
+
+static void check_sheets(void)
+{
+    static const uint8_t example[] = {0, 0, 0, 3, 0, 2, 0x30, 0, 0, 1, 0, 0, 0, 0, 0x20, 0,
+                                      0, 1, 0, 0, 0, 2, 0x70, 0, 0, 2, 0, 0, 0, 0, 0, 0, 0, 1};
+    static const struct {
+        int line;
+        const uint8_t *sheet;
+        size_t len;
+        const char *answer;
+    } sheets[] = {
+        {__LINE__, example, sizeof example, "1 2 int\n"},
+        {__LINE__, example, sizeof example - 1, "refused 10\n"},
+        {__LINE__, example + 3, 6, "refused 1\n"}, /* 768 names */
+    };
+    for (size_t k = 0; k < COUNT(sheets); k++) {
+        uint8_t *line = room(2 * LANG_TY_LINE), *want = line + LANG_TY_LINE;
+        size_t length = 77;
+        memset(line, 0xa5, 2 * LANG_TY_LINE);
+        memcpy(want, sheets[k].answer, strlen(sheets[k].answer));
+        check(sheets[k].line, "answer", TOLD(lang_ty_sheet_line, sheets[k].sheet, sheets[k].len, line, &length), 0);
+        check(sheets[k].line, "length", length, strlen(sheets[k].answer));
+        check_bytes(sheets[k].line, "line", line, want, LANG_TY_LINE);
+        free(line);
+    }
+}
+
+int main(void)
+{
+    fill();
+    for (size_t k = 0; k < COUNT(reading); k++)
+        run(&reading[k]);
+    for (size_t k = 0; k < COUNT(changing); k++)
+        run(&changing[k]);
+    for (size_t k = 0; k < COUNT(all); k++)
+        run_faulty(all[k]);
+    check_tables();
+    check_names();
+    check_tyvar_names();
+    check_sheets();
+    return failures != 0;
+}
