@@ -21,8 +21,9 @@ const PRIMITIVES: [PrimitiveTy; 8] = [
     PrimitiveTy::Number,
 ];
 
+#[derive(Clone)]
 pub struct Rust {
-    arena: TypeArena,
+    pub arena: TypeArena,
     names: Vec<SmolStr>,
 }
 
@@ -105,7 +106,8 @@ impl Rust {
         shown.map(|()| text.text).map_err(|_| 9)
     }
 
-    fn put(&self, node: &Node) -> OutputTy {
+    /// The Rust's form of a node.
+    pub fn put(&self, node: &Node) -> OutputTy {
         let refs = |members: &[u32]| members.iter().map(|&m| at(m)).collect();
         let name = |name: u8| self.names[usize::from(name)].clone();
         match node {

@@ -33,10 +33,10 @@ impl<'a> Bytes<'a> {
 }
 
 /// What a sheet holds.
-struct Sheet {
-    names: Vec<String>,
-    nodes: Vec<Node>,
-    root: u32,
+pub struct Sheet {
+    pub names: Vec<String>,
+    pub nodes: Vec<Node>,
+    pub root: u32,
 }
 
 fn read_names(from: &mut Bytes, count: u32) -> Reply<Vec<String>> {
@@ -77,7 +77,7 @@ fn read_nodes(from: &mut Bytes, count: u32, names: usize) -> Reply<Vec<Node>> {
     Ok(nodes)
 }
 
-fn read(sheet: &[u8]) -> Reply<Sheet> {
+pub fn read(sheet: &[u8]) -> Reply<Sheet> {
     let from = &mut Bytes { sheet, read: 0 };
     let opening = from.take(6)?;
     let part = |at: usize| u32::from_be_bytes([0, 0, opening[at], opening[at + 1]]);

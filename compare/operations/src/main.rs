@@ -1,0 +1,181 @@
+//! Runs each operation on the same types by ours and by the unchanged Rust. `compare/bench-operations` makes the types,
+//! starts this and makes tables of what it writes.
+//!
+//!   operations times FILE ..     the mean of the least times of each call, in ns: the file, the operation, ours in full
+//!                                buffers, ours in snug ones, the Rust
+//!   operations counts FILE ..    what is counted by callgrind from one call of `counted` to the next: the file, the
+//!                                operation, which of the three, how many calls
+//!
+//! A file has cases of operation 8 (docs/COMPARISON.md), a sheet each. Answers and arenas are compared first.
+
+mod ours;
+mod side;
+mod theirs;
+
+use std::hint::black_box;
+use std::time::{Duration, Instant};
+use std::{env, fs};
+
+use reference::case::{Case, Reader};
+use reference::node::Node;
+use reference::sheet::{self, Sheet};
+use reference::{NODES, WORDS};
+
+use ours::Ours;
+use side::{Answer, Operation, Side, OPERATIONS};
+use theirs::Theirs;
+
+const ROUNDS: usize = 15;
+/// How long a round of one side goes on, unless one call a type takes longer.
+const ROUND: Duration = Duration::from_millis(4);
+
+/// The types of a file, held three times.
+struct Held {
+    full: Vec<Ours>,
+    snug: Vec<Ours>,
+    rust: Vec<Theirs>,
+}
+
+fn hold(path: &str) -> Held {
+    let cases = fs::read(path).expect("no such file");
+    let (mut full, mut snug, mut rust) = (vec![], vec![], vec![]);
+    for case in Reader(&cases) {
+        let Case::Sheet(bytes) = case else {
+            panic!("not a sheet");
+        };
+        let Sheet { names, nodes, root } = sheet::read(&bytes).expect("a faulty sheet");
+        let used: usize = nodes.iter().map(|n| n.size()).sum();
+        let two = (WORDS.min(2 * used), NODES.min(2 * nodes.len()));
+        full.push(Ours::holding(&nodes, &names, root, (WORDS, NODES)));
+        snug.push(Ours::holding(&nodes, &names, root, two));
+        rust.push(Theirs::holding(&nodes, &names, root));
+    }
+    Held { full, snug, rust }
+}
+
+fn agree(held: &mut Held, operation: Operation) {
+    for (k, rust) in held.rust.iter_mut().enumerate() {
+        let expected = answer(rust, operation);
+        for ours in [&mut held.full[k], &mut held.snug[k]] {
+            assert_eq!(answer(ours, operation), expected, "{operation:?}");
+        }
+    }
+}
+
+fn answer<S: Side>(side: &mut S, operation: Operation) -> (Answer, Vec<Node>) {
+    side.prepare(operation, 0);
+    let made = side.call(operation);
+    side.outcome(operation, made)
+}
+
+/// The time of each call alone, in ns, of so many for each type.
+fn time<S: Side>(sides: &mut [S], operation: Operation, calls: usize) -> Vec<u64> {
+    let mut spent = Vec::with_capacity(calls * sides.len());
+    for side in sides {
+        for turn in 0..calls {
+            side.prepare(operation, turn);
+            let start = Instant::now();
+            let made = black_box(side.call(operation));
+            spent.push(start.elapsed().as_nanos() as u64);
+            drop(made);
+        }
+    }
+    spent
+}
+
+/// The least time of each call in any round.
+struct Least {
+    calls: usize,
+    each: Vec<u64>,
+}
+
+impl Least {
+    /// As many calls as fit a round, with what is made ready for them.
+    fn of<S: Side>(sides: &mut [S], operation: Operation) -> Least {
+        let start = Instant::now();
+        time(sides, operation, 1);
+        let calls = (ROUND.as_nanos() / start.elapsed().as_nanos()).clamp(1, 2000) as usize;
+        let each = vec![u64::MAX; calls * sides.len()];
+        Least { calls, each }
+    }
+
+    fn round<S: Side>(&mut self, sides: &mut [S], operation: Operation) {
+        let spent = time(sides, operation, self.calls);
+        for (least, spent) in self.each.iter_mut().zip(spent) {
+            *least = spent.min(*least);
+        }
+    }
+
+    fn mean(&self, clock: u64) -> f64 {
+        let all: u64 = self.each.iter().map(|least| least - clock).sum();
+        all as f64 / self.each.len() as f64
+    }
+}
+
+/// What a measurement of nothing takes at least.
+fn clock() -> u64 {
+    let nothing = || black_box(Instant::now()).elapsed().as_nanos() as u64;
+    (0..100_000).map(|_| nothing()).min().unwrap_or(0)
+}
+
+fn times(path: &str, clock: u64) {
+    let mut held = hold(path);
+    for (operation, name) in OPERATIONS {
+        agree(&mut held, operation);
+        let mut full = Least::of(&mut held.full, operation);
+        let mut snug = Least::of(&mut held.snug, operation);
+        let mut rust = Least::of(&mut held.rust, operation);
+        for _ in 0..ROUNDS {
+            full.round(&mut held.full, operation);
+            snug.round(&mut held.snug, operation);
+            rust.round(&mut held.rust, operation);
+        }
+        let least = [full, snug, rust].map(|least| least.mean(clock).to_string());
+        println!("{path}\t{name}\t{}", least.join("\t"));
+    }
+}
+
+/// Callgrind writes what it counted, and begins anew, where this is called.
+#[no_mangle]
+#[inline(never)]
+fn counted(line: String) {
+    println!("{line}");
+}
+
+fn count<S: Side>(path: &str, which: &str, sides: &mut [S], operation: (Operation, &str)) {
+    // Only where a stored node is interned does a call differ from the one before.
+    let turns = if operation.0 == Operation::InternStored {
+        4
+    } else {
+        1
+    };
+    time(sides, operation.0, turns);
+    let calls = turns * sides.len();
+    counted(format!("{path}\t{}\t{which}\t{calls}", operation.1));
+}
+
+fn counts(path: &str) {
+    let mut held = hold(path);
+    for operation in OPERATIONS {
+        count(path, "full", &mut held.full, operation);
+        count(path, "snug", &mut held.snug, operation);
+        count(path, "rust", &mut held.rust, operation);
+    }
+}
+
+fn run() {
+    let words: Vec<String> = env::args().skip(1).collect();
+    let (mode, paths) = words.split_first().expect("times or counts, and files");
+    for path in paths {
+        match mode.as_str() {
+            "times" => times(path, clock()),
+            "counts" => counts(path),
+            _ => panic!("times or counts"),
+        }
+    }
+}
+
+fn main() {
+    // One deep stack for all: the stand-in makes a thread for each call that isn't on one.
+    stacker::maybe_grow(0, 0, run)
+}

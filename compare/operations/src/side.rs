@@ -1,0 +1,86 @@
+//! What ours and the Rust have in common here: operations, and types to run them on.
+
+use reference::node::Node;
+
+#[derive(Clone, Copy, Debug, PartialEq, Eq)]
+pub enum Operation {
+    UnwrapNamed,
+    InternStored,
+    InternNew,
+    Compare,
+    CountReachable,
+    HasTypeVars,
+    NeedsVarNormalization,
+    ContainsBareTyvar,
+    HasSharedTyvar,
+    FreeTypeVars,
+    StructurallyEq,
+    Display,
+    Compact,
+    NormalizeVars,
+    NormalizeReplacingUnknown,
+    NormalizeSetOps,
+    Simplify,
+}
+
+use Operation::*;
+
+pub const OPERATIONS: [(Operation, &str); 17] = [
+    (UnwrapNamed, "unwrap_named"),
+    (InternStored, "intern, a stored node"),
+    (InternNew, "intern, a new node"),
+    (Compare, "compare"),
+    (CountReachable, "count_reachable"),
+    (HasTypeVars, "has_type_vars"),
+    (NeedsVarNormalization, "needs_var_normalization"),
+    (ContainsBareTyvar, "contains_bare_tyvar"),
+    (HasSharedTyvar, "has_shared_tyvar_across_lambda_params"),
+    (FreeTypeVars, "free_type_vars"),
+    (StructurallyEq, "structurally_eq"),
+    (Display, "display"),
+    (Compact, "compact"),
+    (NormalizeVars, "normalize_vars"),
+    (NormalizeReplacingUnknown, "normalize_replacing_unknown"),
+    (NormalizeSetOps, "normalize_set_ops"),
+    (Simplify, "simplify"),
+];
+
+impl Operation {
+    /// The node that a call of `intern` is given; in turn, all that are stored, in an order that leaps.
+    pub fn node(self, nodes: &[Node], root: u32, turn: usize) -> Node {
+        match self {
+            InternNew => Node::List(root),
+            _ => nodes[(turn * 7919 + 1) % nodes.len()].clone(),
+        }
+    }
+
+    /// Whether the arena may be another afterwards.
+    pub fn changes(self) -> bool {
+        let interns = matches!(self, InternStored | InternNew);
+        let renumbers = matches!(self, NormalizeVars | NormalizeReplacingUnknown);
+        interns || renumbers || matches!(self, NormalizeSetOps | Simplify)
+    }
+}
+
+/// What a call gave, to be compared: a yes or no, or an order, is a number.
+#[derive(Debug, PartialEq)]
+pub enum Answer {
+    Number(u32),
+    Numbers(Vec<u32>),
+    Text(String),
+    Copy(u32, Vec<Node>),
+}
+
+/// A type held by one of the two, on which an operation runs.
+pub trait Side {
+    type Made;
+
+    /// Makes all ready for a call: the arena as it was at first, and the node for `intern`.
+    fn prepare(&mut self, operation: Operation, turn: usize);
+
+    /// What is measured.
+    fn call(&mut self, operation: Operation) -> Self::Made;
+
+    /// The answer and the nodes of the arena after a call.
+    fn outcome(&self, operation: Operation, made: Self::Made) -> (Answer, Vec<Node>);
+}

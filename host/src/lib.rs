@@ -1,0 +1,35 @@
+//! The type arena of `lang_ty`, under its own names, over the proved static library. docs/HOST.md says who can cause
+//! which refusal, what memory is after each call, and which stack a call needs.
+//!
+//! ```
+//! use coombtray::{Names, OutputTy, PrimitiveTy, TypeArena};
+//!
+//! let mut arena = TypeArena::new(Names::new(["Roll"])?);
+//! let var = arena.intern(OutputTy::TyVar(0))?;
+//! let float = arena.intern(OutputTy::Primitive(PrimitiveTy::Float))?;
+//! let either = arena.intern(OutputTy::Union(vec![var, float]))?;
+//! let simplified = arena.simplify(either)?;
+//! assert_eq!(arena.display(simplified.root)?, "float");
+//! # Ok::<(), coombtray::Refusal>(())
+//! ```
+//!
+//! This crate isn't proved. It owns the memory, writes nodes as words and reads them back; every answer is the library's.
+
+#![deny(unsafe_op_in_unsafe_fn)]
+
+mod arena;
+pub mod ffi;
+mod memory;
+mod names;
+mod refusal;
+mod stack;
+mod texts;
+mod types;
+mod words;
+
+pub use arena::{Simplified, TypeArena};
+pub use names::Names;
+pub use refusal::Refusal;
+pub use stack::{with_stack, STACK};
+pub use texts::{compare_names, sheet_line, tyvar_name};
+pub use types::{AttrSetTy, Field, OutputTy, PrimitiveTy, TyRef};

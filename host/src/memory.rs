@@ -1,0 +1,368 @@
+//! An arena's memory and the calls that it is lent to. All `unsafe` of this crate stands here, and for one reason: each
+//! pointer comes from a slice, an array or a number that lives and is borrowed through the call, to be written only where
+//! the borrow is mutable, and each length is that slice's. So no pointer is null, nothing that is written overlaps
+//! another argument, and all of it is initialised. The library keeps no pointer, and no call of it unwinds.
+
+use crate::ffi;
+use crate::{Names, Refusal};
+
+type Reply<T> = Result<T, Refusal>;
+
+/// Lent words and starts with their counters, and the name table that goes with them.
+#[derive(Clone, PartialEq, Eq)]
+pub(crate) struct Memory {
+    pub names: Names,
+    words: Box<[u32]>,
+    starts: Box<[u32]>,
+    nodes: usize,
+    used: usize,
+}
+
+/// The calls that ask a number about a root.
+#[derive(Clone, Copy)]
+pub(crate) enum Question {
+    CountReachable,
+    UnwrapNamed,
+    HasTypeVars,
+    NeedsVarNormalization,
+    ContainsBareTyvar,
+    HasSharedTyvar,
+}
+
+/// The calls that make another type of a root.
+#[derive(Clone, Copy)]
+pub(crate) enum Change {
+    Vars,
+    ReplacingUnknown,
+    SetOps,
+}
+
+impl Memory {
+    /// An empty arena; 2 if it would be over a limit.
+    pub fn new(names: Names, words: usize, starts: usize) -> Reply<Memory> {
+        if words > ffi::WORDS || starts > ffi::STARTS {
+            return Err(Refusal::ARENA);
+        }
+        Ok(Memory {
+            names,
+            words: vec![0; words].into(),
+            starts: vec![0; starts].into(),
+            nodes: 0,
+            used: 0,
+        })
+    }
+
+    pub fn nodes(&self) -> usize {
+        self.nodes
+    }
+
+    /// How many words and starts there are, used or not.
+    pub fn room(&self) -> (usize, usize) {
+        (self.words.len(), self.starts.len())
+    }
+
+    /// The words of all nodes.
+    pub fn words(&self) -> &[u32] {
+        &self.words[..self.used]
+    }
+
+    /// The words of a node, or none if it isn't there.
+    pub fn node(&self, number: u32) -> Option<&[u32]> {
+        let starts = &self.starts[..self.nodes];
+        let start = *starts.get(number as usize)? as usize;
+        let after = starts.get(number as usize + 1);
+        let end = after.map_or(self.used, |&next| next as usize);
+        Some(&self.words[start..end])
+    }
+
+    /// Puts words past the last node, and doesn't look at them; 7 if there is no room. `sound` must be asked afterwards.
+    pub fn lay(&mut self, node: &[u32]) -> Reply<()> {
+        let end = self.used + node.len();
+        if self.nodes == self.starts.len() || end > self.words.len() {
+            return Err(Refusal::ROOM);
+        }
+        self.words[self.used..end].copy_from_slice(node);
+        self.starts[self.nodes] = self.used as u32;
+        self.nodes += 1;
+        self.used = end;
+        Ok(())
+    }
+
+    /// 2 if the nodes that were laid are no arena. Every call judges that; this one is as good as another.
+    pub fn sound(&self) -> Reply<()> {
+        match self.ask(Question::CountReachable, 0) {
+            Err(Refusal::ARENA) => Err(Refusal::ARENA),
+            _ => Ok(()),
+        }
+    }
+
+    pub fn intern(&mut self, node: &[u32]) -> Reply<u32> {
+        let table = self.names.table();
+        let mut number = 0;
+        // SAFETY: see the head of this file.
+        let answer = unsafe {
+            ffi::lang_ty_intern(
+                table.as_ptr(),
+                table.len(),
+                self.words.as_mut_ptr(),
+                self.words.len(),
+                self.starts.as_mut_ptr(),
+                self.starts.len(),
+                &mut self.nodes,
+                &mut self.used,
+                node.as_ptr(),
+                node.len(),
+                &mut number,
+            )
+        };
+        Refusal::judge(answer).map(|()| number)
+    }
+
+    /// The root of the simplified type, and the passes made.
+    pub fn simplify(&mut self, root: u32) -> Reply<(u32, u32)> {
+        let table = self.names.table();
+        let (mut root_after, mut passes) = (0, 0);
+        // SAFETY: see the head of this file.
+        let answer = unsafe {
+            ffi::lang_ty_simplify(
+                table.as_ptr(),
+                table.len(),
+                self.words.as_mut_ptr(),
+                self.words.len(),
+                self.starts.as_mut_ptr(),
+                self.starts.len(),
+                &mut self.nodes,
+                &mut self.used,
+                root,
+                &mut root_after,
+                &mut passes,
+            )
+        };
+        Refusal::judge(answer).map(|()| (root_after, passes))
+    }
+
+    pub fn change(&mut self, change: Change, root: u32) -> Reply<u32> {
+        let call = match change {
+            Change::Vars => ffi::lang_ty_normalize_vars,
+            Change::ReplacingUnknown => ffi::lang_ty_normalize_replacing_unknown,
+            Change::SetOps => ffi::lang_ty_normalize_set_ops,
+        };
+        let table = self.names.table();
+        let mut root_after = 0;
+        // SAFETY: see the head of this file.
+        let answer = unsafe {
+            call(
+                table.as_ptr(),
+                table.len(),
+                self.words.as_mut_ptr(),
+                self.words.len(),
+                self.starts.as_mut_ptr(),
+                self.starts.len(),
+                &mut self.nodes,
+                &mut self.used,
+                root,
+                &mut root_after,
+            )
+        };
+        Refusal::judge(answer).map(|()| root_after)
+    }
+
+    /// Copies the root's type into a target; the target's names are left to the caller.
+    pub fn compact(&self, root: u32, target: &mut Memory) -> Reply<u32> {
+        let table = self.names.table();
+        let mut root_after = 0;
+        // SAFETY: see the head of this file.
+        let answer = unsafe {
+            ffi::lang_ty_compact(
+                table.as_ptr(),
+                table.len(),
+                self.words.as_ptr(),
+                self.words.len(),
+                self.starts.as_ptr(),
+                self.starts.len(),
+                self.nodes,
+                self.used,
+                root,
+                target.words.as_mut_ptr(),
+                target.words.len(),
+                target.starts.as_mut_ptr(),
+                target.starts.len(),
+                &mut target.nodes,
+                &mut target.used,
+                &mut root_after,
+            )
+        };
+        Refusal::judge(answer).map(|()| root_after)
+    }
+
+    pub fn ask(&self, question: Question, root: u32) -> Reply<u32> {
+        let call = match question {
+            Question::CountReachable => ffi::lang_ty_count_reachable,
+            Question::UnwrapNamed => ffi::lang_ty_unwrap_named,
+            Question::HasTypeVars => ffi::lang_ty_has_type_vars,
+            Question::NeedsVarNormalization => ffi::lang_ty_needs_var_normalization,
+            Question::ContainsBareTyvar => ffi::lang_ty_contains_bare_tyvar,
+            Question::HasSharedTyvar => ffi::lang_ty_has_shared_tyvar_across_lambda_params,
+        };
+        let table = self.names.table();
+        let mut told = 0;
+        // SAFETY: see the head of this file.
+        let answer = unsafe {
+            call(
+                table.as_ptr(),
+                table.len(),
+                self.words.as_ptr(),
+                self.words.len(),
+                self.starts.as_ptr(),
+                self.starts.len(),
+                self.nodes,
+                self.used,
+                root,
+                &mut told,
+            )
+        };
+        Refusal::judge(answer).map(|()| told)
+    }
+
+    /// One of `ffi::LESS`, `ffi::EQUAL` and `ffi::GREATER`.
+    pub fn compare(&self, left: u32, right: u32) -> Reply<u32> {
+        let table = self.names.table();
+        let mut order = 0;
+        // SAFETY: see the head of this file.
+        let answer = unsafe {
+            ffi::lang_ty_compare(
+                table.as_ptr(),
+                table.len(),
+                self.words.as_ptr(),
+                self.words.len(),
+                self.starts.as_ptr(),
+                self.starts.len(),
+                self.nodes,
+                self.used,
+                left,
+                right,
+                &mut order,
+            )
+        };
+        Refusal::judge(answer).map(|()| order)
+    }
+
+    pub fn free_type_vars(&self, root: u32) -> Reply<Vec<u32>> {
+        let table = self.names.table();
+        let mut vars = Box::new([0; ffi::VARS]);
+        let mut count = 0;
+        // SAFETY: see the head of this file.
+        let answer = unsafe {
+            ffi::lang_ty_free_type_vars(
+                table.as_ptr(),
+                table.len(),
+                self.words.as_ptr(),
+                self.words.len(),
+                self.starts.as_ptr(),
+                self.starts.len(),
+                self.nodes,
+                self.used,
+                root,
+                &mut *vars,
+                &mut count,
+            )
+        };
+        Refusal::judge(answer).map(|()| vars[..count].to_vec())
+    }
+
+    pub fn structurally_eq(&self, root: u32, other: &Memory, other_root: u32) -> Reply<bool> {
+        let (table, other_table) = (self.names.table(), other.names.table());
+        let mut is = 0;
+        // SAFETY: see the head of this file.
+        let answer = unsafe {
+            ffi::lang_ty_structurally_eq(
+                table.as_ptr(),
+                table.len(),
+                self.words.as_ptr(),
+                self.words.len(),
+                self.starts.as_ptr(),
+                self.starts.len(),
+                self.nodes,
+                self.used,
+                root,
+                other_table.as_ptr(),
+                other_table.len(),
+                other.words.as_ptr(),
+                other.words.len(),
+                other.starts.as_ptr(),
+                other.starts.len(),
+                other.nodes,
+                other.used,
+                other_root,
+                &mut is,
+            )
+        };
+        Refusal::judge(answer).map(|()| is == 1)
+    }
+
+    /// How many bytes the text has that was written.
+    pub fn display(&self, root: u32, text: &mut [u8]) -> Reply<usize> {
+        let table = self.names.table();
+        let mut length = 0;
+        // SAFETY: see the head of this file.
+        let answer = unsafe {
+            ffi::lang_ty_display(
+                table.as_ptr(),
+                table.len(),
+                self.words.as_ptr(),
+                self.words.len(),
+                self.starts.as_ptr(),
+                self.starts.len(),
+                self.nodes,
+                self.used,
+                root,
+                text.as_mut_ptr(),
+                text.len(),
+                &mut length,
+            )
+        };
+        Refusal::judge(answer).map(|()| length)
+    }
+}
+
+/// How many names the table has.
+pub(crate) fn check_names(table: &[u8]) -> Reply<usize> {
+    let mut count = 0;
+    // SAFETY: see the head of this file.
+    let answer = unsafe { ffi::lang_ty_check_names(table.as_ptr(), table.len(), &mut count) };
+    Refusal::judge(answer).map(|()| count)
+}
+
+/// One of `ffi::LESS`, `ffi::EQUAL` and `ffi::GREATER`. It is never refused.
+pub(crate) fn compare_names(left: &[u8], right: &[u8]) -> u32 {
+    let mut order = 0;
+    // SAFETY: see the head of this file.
+    unsafe {
+        ffi::lang_ty_compare_names(
+            left.as_ptr(),
+            left.len(),
+            right.as_ptr(),
+            right.len(),
+            &mut order,
+        );
+    }
+    order
+}
+
+/// The text of a variable. It is never refused.
+pub(crate) fn tyvar_name(index: u32) -> Vec<u8> {
+    let mut text = [0; ffi::TYVAR_NAME];
+    let mut length = 0;
+    // SAFETY: see the head of this file.
+    unsafe { ffi::lang_ty_tyvar_name(index, &mut text, &mut length) };
+    text[..length].to_vec()
+}
+
+/// The line of a sheet. It is never refused: the line of a refused sheet says so.
+pub(crate) fn sheet_line(sheet: &[u8]) -> Vec<u8> {
+    let mut line = Box::new([0; ffi::LINE]);
+    let mut length = 0;
+    // SAFETY: see the head of this file.
+    unsafe { ffi::lang_ty_sheet_line(sheet.as_ptr(), sheet.len(), &mut *line, &mut length) };
+    line[..length].to_vec()
+}

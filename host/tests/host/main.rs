@@ -1,0 +1,12 @@
+//! The crate, and below it the static library as it is linked. The random types beside the unchanged Rust are in
+//! compare/host.
+
+mod build;
+mod deep;
+mod header;
+mod misuse;
+mod names;
+mod raw;
+mod refusals;
+mod threads;
+mod worked;

@@ -1,0 +1,80 @@
+//! The name table, and more names for an arena that has nodes.
+
+use coombtray::{AttrSetTy, Field, Names, OutputTy, Refusal, TyRef, TypeArena};
+
+use crate::build::*;
+
+#[test]
+fn sorted_and_each_once() {
+    let names = Names::new(["roll", "Pitch", "a b", "roll", "ro"]).unwrap();
+    assert_eq!(
+        names.iter().collect::<Vec<_>>(),
+        ["Pitch", "a b", "ro", "roll"]
+    );
+    assert_eq!(names.table(), b"\x05Pitch\x03a b\x02ro\x04roll");
+    assert_eq!((names.len(), names.is_empty()), (4, false));
+    assert!(Names::new([""; 0]).unwrap().is_empty());
+}
+
+#[test]
+fn names_that_are_refused() {
+    let refused = |name: &str| Names::new([name]).map_err(Refusal::number) == Err(1);
+    assert!(!refused(&"n".repeat(64)));
+    for length in [0, 65, 255, 256, 70_000] {
+        assert!(refused(&"n".repeat(length)), "{length} bytes");
+    }
+    // 257 bytes, which is 1 as a byte; they would read as a table of five names, `?` being 63.
+    let parts = ["b", "c", "d", "e"].map(|letter| format!("?{}", letter.repeat(63)));
+    assert!(refused(&format!("a{}", parts.concat())));
+    for name in ["\u{1f}", "\u{7f}", "é", "a\nb", "\0"] {
+        assert!(refused(name), "{name:?}");
+    }
+    assert!(!refused(" ~"));
+    let many = |count: usize| Names::new((0..count).map(|number| number.to_string()));
+    assert_eq!(many(256).unwrap().len(), 256);
+    assert_eq!(many(257).map_err(Refusal::number), Err(1));
+}
+
+#[test]
+fn more_names() {
+    let mut t = named(&["chainage", "roll"]);
+    let int = int(&mut t);
+    let mut attrs = AttrSetTy::from_internal([("chainage", int), ("roll", int)], true);
+    attrs.dyn_ty = Some(int);
+    attrs.fields.insert("roll".into(), Field::optional(int));
+    let of = put(&mut t, OutputTy::AttrSet(attrs));
+    let root = put(&mut t, OutputTy::Named("roll".into(), of));
+    let nodes: Vec<OutputTy> = t.nodes().collect();
+    let (before, text) = (t.clone(), t.display(of).unwrap());
+
+    t.add_names(["zero", "a", "pitch", "roll"]).unwrap();
+    assert_eq!(
+        t.names().iter().collect::<Vec<_>>(),
+        ["a", "chainage", "pitch", "roll", "zero"]
+    );
+    assert_eq!(t.nodes().collect::<Vec<_>>(), nodes);
+    assert_eq!(t.display(of), Ok(text));
+    assert!(t.words() != before.words(), "name numbers are others");
+    assert_eq!(before.structurally_eq(root, &t, root), Ok(true));
+    t.intern(OutputTy::Named("pitch".into(), of)).unwrap();
+}
+
+#[test]
+fn more_names_that_are_refused() {
+    let mut t = named(&["roll"]);
+    let int = int(&mut t);
+    put(&mut t, OutputTy::Named("roll".into(), int));
+    let before = t.clone();
+    assert_eq!(t.add_names([""]).map_err(Refusal::number), Err(1));
+    let many = (0..256).map(|number| number.to_string());
+    assert_eq!(t.add_names(many).map_err(Refusal::number), Err(1));
+    assert!(t == before);
+    // An arena without a word to spare has room for its nodes under any names.
+    let full = TypeArena::with_capacity(t.names().clone(), 4, 2);
+    let mut full = full.unwrap();
+    for node in t.nodes() {
+        full.intern(node).unwrap();
+    }
+    full.add_names(["a"]).unwrap();
+    assert_eq!(full.display(TyRef::from_raw(1)), Ok("roll".into()));
+}
