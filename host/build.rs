@@ -1,4 +1,4 @@
-//! Links the static library. `LANG_TY_LIB_DIR` says in which folder it stands; without it, where `rt` puts it.
+//! Links the static library. `LANG_TY_LIB_DIR` says in which folder it stands; without it, where host/archive puts it.
 
 use std::path::PathBuf;
 use std::{env, fs, process};
@@ -23,7 +23,7 @@ fn main() {
 
 fn missing(archive: PathBuf) -> ! {
     eprintln!(
-        "there is no {}: run `rt staticlib lang_ty` in the repository's root, or set LANG_TY_LIB_DIR",
+        "there is no {}: run host/archive in the repository, or set LANG_TY_LIB_DIR",
         archive.display()
     );
     process::exit(1)

@@ -1,4 +1,4 @@
-/* The calls of the static library liblang_ty.a, made from crates/lang_ty. docs/HOST.md says what each number means, who
+/* The calls of the static library liblang_ty.a, which host/archive makes. docs/HOST.md says what each number means, who
  * can cause it, and what memory holds after a call.
  *
  * Every call answers 0, or the number of a refusal, which leaves the results as they were. A length counts elements. No
@@ -111,7 +111,8 @@ uint32_t lang_ty_display(
     size_t nodes, size_t used,
     uint32_t root, uint8_t *text, size_t text_len, size_t *len);
 
-/* Calls that change an arena. A refusal leaves its words, starts and counters as they were. */
+/* Calls that change an arena, or make one. A refusal leaves its words, starts and counters as they were, except that 7
+ * leaves the target of lang_ty_compact zero and empty. */
 
 /* The number of the node with these words, which is added where the arena has none. */
 uint32_t lang_ty_intern(
@@ -148,7 +149,7 @@ uint32_t lang_ty_normalize_set_ops(
     size_t *nodes, size_t *used,
     uint32_t root, uint32_t *root_after);
 
-/* The type copied into a target, which is cleared first; 7 leaves it zero and empty. */
+/* The type copied into a target, which holds it alone afterwards. */
 uint32_t lang_ty_compact(
     const uint8_t *table, size_t table_len,
     const uint32_t *words, size_t words_len, const uint32_t *starts, size_t starts_len,

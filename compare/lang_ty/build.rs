@@ -1,8 +1,9 @@
 //! Gives the source files, where they stand, the names that Rust's modules look for: links in
-//! OUT_DIR. Nothing is copied. `LANG_TY_SRC` says where they stand, seen from the repository's root.
+//! OUT_DIR. Nothing is copied. `LANG_TY_SRC` says where they stand, seen from the repository's root:
+//! a folder with the files under the documents' names, or a checkout of tix, with their own.
 
 use std::os::unix::fs::symlink;
-use std::path::PathBuf;
+use std::path::{Path, PathBuf};
 use std::{env, fs};
 
 const FILES: [&str; 7] = [
@@ -23,9 +24,7 @@ fn main() {
     let source = folder("CARGO_MANIFEST_DIR").join("../..").join(setting);
     let out = folder("OUT_DIR");
     for file in FILES {
-        let original = source.join(format!("src--crates--lang_ty--src--{file}.rs.txt"));
-        let original = fs::canonicalize(&original)
-            .unwrap_or_else(|e| panic!("{}: {e} (set LANG_TY_SRC)", original.display()));
+        let original = original(&source, file);
         println!("cargo:rerun-if-changed={}", original.display());
         let link = out.join(format!("{file}.rs"));
         let _ = fs::remove_file(&link);
@@ -33,4 +32,16 @@ fn main() {
     }
     // lib.rs declares this module; it isn't among the files, and none of them uses it.
     fs::write(out.join("disjoint.rs"), "").unwrap();
+}
+
+fn original(source: &Path, file: &str) -> PathBuf {
+    let named = [
+        format!("src--crates--lang_ty--src--{file}.rs.txt"),
+        format!("crates/lang_ty/src/{file}.rs"),
+    ];
+    let found = named.iter().find_map(|name| fs::canonicalize(source.join(name)).ok());
+    found.unwrap_or_else(|| {
+        let (one, other) = (&named[0], &named[1]);
+        panic!("no {one} and no {other} in {} (set LANG_TY_SRC)", source.display())
+    })
 }

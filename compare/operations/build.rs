@@ -1,4 +1,4 @@
-//! Links the static library where `rt staticlib lang_ty` puts it.
+//! Links the static library where host/archive puts it.
 
 use std::env;
 use std::path::PathBuf;

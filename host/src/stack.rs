@@ -1,7 +1,7 @@
 use std::panic::resume_unwind;
 use std::thread;
 
-/// Stack, in bytes, that is enough for any one call on any arena: the most that was measured is 4,926 KiB
+/// Stack, in bytes, that is enough for any one call on any arena: the most that was measured is 4,782 KiB
 /// (docs/HOST.md).
 pub const STACK: usize = 8 * 1024 * 1024;
 

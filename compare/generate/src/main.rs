@@ -1,7 +1,8 @@
 //! `generate --seed S --count N`: N random cases of each operation on standard output. The same seed
 //! gives the same cases. `generate --short` gives all short cases instead, and `generate --fixed` the
-//! worked types and the limits. `--ops LIST` asks for these operations only; with `--most BYTES`
-//! longer cases are left out.
+//! worked types and the limits. `--ops LIST` asks for these operations only, `--among LIST` for those
+//! of them that are in this list too, `--besides LIST` for those that aren't; with `--most BYTES` longer
+//! cases are left out.
 
 mod build;
 mod cases;
@@ -35,6 +36,7 @@ fn wanted() -> Option<Wanted> {
         most: usize::MAX,
         listed: None,
     };
+    let (mut among, mut besides) = (OPS.to_vec(), Vec::new());
     let mut arguments = env::args().skip(1);
     while let Some(name) = arguments.next() {
         let mut value = || arguments.next();
@@ -45,9 +47,13 @@ fn wanted() -> Option<Wanted> {
             "--count" => wanted.count = value()?.parse().ok()?,
             "--most" => wanted.most = value()?.parse().ok()?,
             "--op" | "--ops" => wanted.ops = ops(&value()?)?,
+            "--among" => among = ops(&value()?)?,
+            "--besides" => besides = ops(&value()?)?,
             _ => return None,
         }
     }
+    let here = |op: &u8| among.contains(op) && !besides.contains(op);
+    wanted.ops.retain(here);
     Some(wanted)
 }
 
@@ -58,7 +64,9 @@ fn ops(list: &str) -> Option<Vec<u8>> {
 
 fn main() -> io::Result<()> {
     let Some(wanted) = wanted() else {
-        eprintln!("generate (--seed S --count N | --short | --fixed) [--ops LIST] [--most BYTES]");
+        eprintln!(
+            "generate (--seed S --count N | --short | --fixed) [--ops LIST] [--among LIST] [--besides LIST] [--most BYTES]"
+        );
         std::process::exit(2);
     };
     // Sizes and texts at a limit are found by running the type, which may be deep.

@@ -21,7 +21,8 @@ interning words starts ws table a = decode table (length a) ws >>= λ x. intern 
 -- before them the table's fault, 1, and the arena's, 2
 unfoldable pub intern-reply : List ℕ → List ℕ → List ℕ → Counters → List ℕ → Reply ℕ
 unfolding reply-of tabled names-of judged interning
-intern-reply t w s c ws = reply-of w s c (tabled (names-of t) (λ (ns : List Name). judged (length ns) w s c (interning (length w) (length s) ws (length ns))))
+intern-reply t w s c ws =
+    reply-of w s c (tabled (names-of t) (λ (ns : List Name). judged (length ns) w s c (interning (length w) (length s) ws (length ns))))
 
 -- the answer for any words, and memory after, are the definition's
 pub record InternsWords (table : ℕ) (w s : List ℕ) (c : Counters) (ws w′ s′ : List ℕ) (r : Interned) : Type 0 where

@@ -24,7 +24,8 @@ fn intern_words(
     node: &[u32],
 ) -> Interned
     requires { ⌜ Under names (now words) (now starts) c ⌝ }
-    ensures { λ r. ⌜ InternsWords names (now (words .entry)) (now (starts .entry)) c (now (node .entry)) (now (words .exit)) (now (starts .exit)) r ⌝ }
+    ensures { λ r. ⌜ InternsWords names (now (words .entry)) (now (starts .entry)) c (now (node .entry)) (now (words .exit))
+        (now (starts .exit)) r ⌝ }
 {
     let number = fault(node, c.nodes, names);
     if number != 0 {
@@ -41,7 +42,8 @@ pub fn intern(
     c: Counters,
     node: &[u32],
 ) -> Interned
-    ensures { λ r. ⌜ left c r (now (words .exit)) (now (starts .exit)) ≡ intern-reply (now (table .entry)) (now (words .entry)) (now (starts .entry)) c (now (node .entry)) ⌝ }
+    ensures { λ r. ⌜ left c r (now (words .exit)) (now (starts .exit))
+        ≡ intern-reply (now (table .entry)) (now (words .entry)) (now (starts .entry)) c (now (node .entry)) ⌝ }
 {
     let lent = judge(table, words, starts, c);
     match lent {

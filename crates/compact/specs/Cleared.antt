@@ -21,5 +21,6 @@ pub record ClearReady (w s : List ℕ) (c : Counters) (root : ℕ) (tw ts : List
 pub record CompactsCleared (w s : List ℕ) (c : Counters) (root : ℕ) (tw ts tw′ ts′ : List ℕ) (r : Compacted) : Type 0 where
   pub is : (table : ℕ) (u : Arena) → Holds table w s c u → left r tw′ ts′ ≡ compacted root tw ts empty (ok u)
 
-pub record CompactsLent (w s : List ℕ) (c : Counters) (root : ℕ) (tw ts : List ℕ) (d : Counters) (tw′ ts′ : List ℕ) (r : Compacted) : Type 0 where
+pub record CompactsLent (w s : List ℕ) (c : Counters) (root : ℕ) (tw ts : List ℕ) (d : Counters) (tw′ ts′ : List ℕ)
+    (r : Compacted) : Type 0 where
   pub is : (table : ℕ) (u : Arena) → Holds table w s c u → left r tw′ ts′ ≡ compacted root tw ts d (limited tw ts (rooted root ok u))

@@ -25,7 +25,8 @@ limited tw ts o = elim (over-limit tw ts) [ true ↦ refuse 2 | false ↦ o ]
 -- the arena of the source: its 1 and 2, then the target's 2, then 6
 unfoldable pub source : List ℕ → List ℕ → List ℕ → Counters → ℕ → List ℕ → List ℕ → Out Arena
 unfolding tabled names-of judged limited rooted
-source t w s c root tw ts = tabled (names-of t) (λ (ns : List Name). judged (length ns) w s c (λ (u : Arena). limited tw ts (rooted root ok u)))
+source t w s c root tw ts =
+    tabled (names-of t) (λ (ns : List Name). judged (length ns) w s c (λ (u : Arena). limited tw ts (rooted root ok u)))
 
 -- lent memory, all zero, and the counters of an arena that has no node
 abbrev pub cleared : List ℕ → List ℕ

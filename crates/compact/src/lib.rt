@@ -33,7 +33,8 @@ fn compact_cleared(
     target_starts: &mut [u32],
 ) -> Compacted
     requires { ⌜ ClearReady (now words) (now starts) c root (now «target_words») (now «target_starts») ⌝ }
-    ensures { λ r. ⌜ CompactsCleared (now (words .entry)) (now (starts .entry)) c root (now («target_words» .entry)) (now («target_starts» .entry)) (now («target_words» .exit)) (now («target_starts» .exit)) r ⌝ }
+    ensures { λ r. ⌜ CompactsCleared (now (words .entry)) (now (starts .entry)) c root (now («target_words» .entry))
+        (now («target_starts» .entry)) (now («target_words» .exit)) (now («target_starts» .exit)) r ⌝ }
 {
     take_back(target_words, 0);
     take_back(target_starts, 0);
@@ -77,7 +78,8 @@ fn compact_lent(
     counters: Counters,
 ) -> Compacted
     requires { ⌜ Lent (now words) (now starts) c ⌝ }
-    ensures { λ r. ⌜ CompactsLent (now (words .entry)) (now (starts .entry)) c root (now («target_words» .entry)) (now («target_starts» .entry)) counters (now («target_words» .exit)) (now («target_starts» .exit)) r ⌝ }
+    ensures { λ r. ⌜ CompactsLent (now (words .entry)) (now (starts .entry)) c root (now («target_words» .entry))
+        (now («target_starts» .entry)) counters (now («target_words» .exit)) (now («target_starts» .exit)) r ⌝ }
 {
     if (target_words.len() > 16384) | (target_starts.len() > 4096) {
         let answer = Copied::Refused(2);
@@ -102,7 +104,9 @@ pub fn compact(
     target_starts: &mut [u32],
     counters: Counters,
 ) -> Compacted
-    ensures { λ r. ⌜ left r (now («target_words» .exit)) (now («target_starts» .exit)) ≡ compact-reply (now (table .entry)) (now (words .entry)) (now (starts .entry)) c root (now («target_words» .entry)) (now («target_starts» .entry)) counters ⌝ }
+    ensures { λ r. ⌜ left r (now («target_words» .exit)) (now («target_starts» .exit))
+        ≡ compact-reply (now (table .entry)) (now (words .entry)) (now (starts .entry)) c root (now («target_words» .entry))
+        (now («target_starts» .entry)) counters ⌝ }
 {
     let lent = judge(table, words, starts, c);
     match lent {

@@ -29,5 +29,7 @@ pub record CopyReady (w s : List ℕ) (c : Counters) (n : ℕ) (items : List ℕ
   pub low : below (d .nodes) (take count items) ≡ true
 
 -- the answer, and the target's memory after, are those of interning the source's node with these children
-pub record Copies (w s : List ℕ) (c : Counters) (n : ℕ) (items : List ℕ) (count : ℕ) (tw ts : List ℕ) (d : Counters) (tw′ ts′ : List ℕ) (r : Interned) : Type 0 where
-  pub is : (table : ℕ) (u a : Arena) → Holds table w s c u → Holds table tw ts d a → left d r tw′ ts′ ≡ reply-of tw ts d (intern (length tw) (length ts) (node (tag (at u n)) (take count items)) a)
+pub record Copies (w s : List ℕ) (c : Counters) (n : ℕ) (items : List ℕ) (count : ℕ) (tw ts : List ℕ) (d : Counters) (tw′ ts′ : List ℕ)
+    (r : Interned) : Type 0 where
+  pub is : (table : ℕ) (u a : Arena) → Holds table w s c u → Holds table tw ts d a
+      → left d r tw′ ts′ ≡ reply-of tw ts d (intern (length tw) (length ts) (node (tag (at u n)) (take count items)) a)

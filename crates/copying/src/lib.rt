@@ -28,7 +28,8 @@ fn intern_copy(
     d: Counters,
 ) -> Interned
     requires { ⌜ CopyReady (now words) (now starts) c n (now items) count (now «target_words») (now «target_starts») d ⌝ }
-    ensures { λ r. ⌜ Copies (now (words .entry)) (now (starts .entry)) c n (now (items .entry)) count (now («target_words» .entry)) (now («target_starts» .entry)) d (now («target_words» .exit)) (now («target_starts» .exit)) r ⌝ }
+    ensures { λ r. ⌜ Copies (now (words .entry)) (now (starts .entry)) c n (now (items .entry)) count (now («target_words» .entry))
+        (now («target_starts» .entry)) d (now («target_words» .exit)) (now («target_starts» .exit)) r ⌝ }
 {
     let node = node_at(words, starts, c, wide(n));
     if count == 0 {
@@ -52,7 +53,9 @@ pub fn compact_inner(
     cache: &mut [u32; 4096],
 ) -> Interned
     requires { ⌜ Ready copy (Source (now words) (now starts) c) (now «target_words») (now «target_starts») d n (now cache) ⌝ }
-    ensures { λ r. ⌜ Does copy (Source (now (words .entry)) (now (starts .entry)) c) (now («target_words» .entry)) (now («target_starts» .entry)) d n (now (cache .entry)) (now («target_words» .exit)) (now («target_starts» .exit)) (now (cache .exit)) r ⌝ }
+    ensures { λ r. ⌜ Does copy (Source (now (words .entry)) (now (starts .entry)) c) (now («target_words» .entry))
+        (now («target_starts» .entry)) d n (now (cache .entry)) (now («target_words» .exit)) (now («target_starts» .exit))
+        (now (cache .exit)) r ⌝ }
 {
     let hit = cached(cache, n);
     if hit != 0 {
@@ -78,7 +81,9 @@ fn compact_inner_uncached(
     cache: &mut [u32; 4096],
 ) -> Interned
     requires { ⌜ Ready copy (Source (now words) (now starts) c) (now «target_words») (now «target_starts») d n (now cache) ⌝ }
-    ensures { λ r. ⌜ Does copy (Source (now (words .entry)) (now (starts .entry)) c) (now («target_words» .entry)) (now («target_starts» .entry)) d n (now (cache .entry)) (now («target_words» .exit)) (now («target_starts» .exit)) (now (cache .exit)) r ⌝ }
+    ensures { λ r. ⌜ Does copy (Source (now (words .entry)) (now (starts .entry)) c) (now («target_words» .entry))
+        (now («target_starts» .entry)) d n (now (cache .entry)) (now («target_words» .exit)) (now («target_starts» .exit))
+        (now (cache .exit)) r ⌝ }
 {
     let mut list = all_children(words, starts, c, n);
     let count = list.count;
@@ -125,8 +130,11 @@ fn compact_each(
     d: Counters,
     cache: &mut [u32; 4096],
 ) -> Run
-    requires { ⌜ EachReady copy (Source (now words) (now starts) c) (now «target_words») (now «target_starts») d n (now items) count (now cache) ⌝ }
-    ensures { λ r. ⌜ DoesEach copy (Source (now (words .entry)) (now (starts .entry)) c) (now («target_words» .entry)) (now («target_starts» .entry)) d n (now (items .entry)) count (now (cache .entry)) (now («target_words» .exit)) (now («target_starts» .exit)) (now (items .exit)) (now (cache .exit)) r ⌝ }
+    requires { ⌜ EachReady copy (Source (now words) (now starts) c) (now «target_words») (now «target_starts») d n (now items) count
+        (now cache) ⌝ }
+    ensures { λ r. ⌜ DoesEach copy (Source (now (words .entry)) (now (starts .entry)) c) (now («target_words» .entry))
+        (now («target_starts» .entry)) d n (now (items .entry)) count (now (cache .entry)) (now («target_words» .exit))
+        (now («target_starts» .exit)) (now (items .exit)) (now (cache .exit)) r ⌝ }
 {
     let mut last = d;
     let mut i = 0;

@@ -49,7 +49,8 @@ fn write_ty(
     count: usize,
 ) -> usize
     requires { ⌜ InRange (now words) (now starts) c n ⌝ }
-    ensures { λ r. ⌜ Prints (now (table .entry)) (now (words .entry)) (now (starts .entry)) c n (now (text .entry)) count (now (text .exit)) r ⌝ }
+    ensures { λ r. ⌜ Prints (now (table .entry)) (now (words .entry)) (now (starts .entry)) c n (now (text .entry))
+        count (now (text .exit)) r ⌝ }
 {
     if count > text.len() {
         return count;
@@ -89,7 +90,8 @@ pub fn display_in(
     text: &mut [u8],
 ) -> Displayed
     requires { ⌜ InRange (now words) (now starts) c root ⌝ }
-    ensures { λ r. ⌜ Displays (now (table .entry)) (now (words .entry)) (now (starts .entry)) c root (now (text .entry)) (now (text .exit)) r ⌝ }
+    ensures { λ r. ⌜ Displays (now (table .entry)) (now (words .entry)) (now (starts .entry)) c root
+        (now (text .entry)) (now (text .exit)) r ⌝ }
 {
     let limit = limit_of(text.len());
     let end = write_ty(table, words, starts, c, root, &mut text[..limit], 0);
@@ -110,7 +112,8 @@ fn display_root(
     text: &mut [u8],
 ) -> Displayed
     requires { ⌜ Lent (now words) (now starts) c ⌝ }
-    ensures { λ r. ⌜ DisplaysRoot (now (table .entry)) (now (words .entry)) (now (starts .entry)) c root (now (text .entry)) (now (text .exit)) r ⌝ }
+    ensures { λ r. ⌜ DisplaysRoot (now (table .entry)) (now (words .entry)) (now (starts .entry)) c root (now (text .entry))
+        (now (text .exit)) r ⌝ }
 {
     if wide(root) >= c.nodes {
         return Displayed::Refused(6);
@@ -127,7 +130,8 @@ pub fn display(
     root: u32,
     text: &mut [u8],
 ) -> Displayed
-    ensures { λ r. ⌜ left r (now (text .exit)) ≡ display-reply (now (table .entry)) (now (words .entry)) (now (starts .entry)) c root (now (text .entry)) ⌝ }
+    ensures { λ r. ⌜ left r (now (text .exit))
+        ≡ display-reply (now (table .entry)) (now (words .entry)) (now (starts .entry)) c root (now (text .entry)) ⌝ }
 {
     let lent = judge(table, words, starts, c);
     match lent {

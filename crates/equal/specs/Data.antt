@@ -29,4 +29,5 @@ same-data ns x ms y = same label-dec (label-of ns (tag x)) (label-of ms (tag y))
 
 -- r says so of the words of any two nodes
 pub record SameData (t v u w : List ℕ) (r : Bool) : Type 0 where
-  pub is : (ns ms : List Name) (x y : Node) → names-of t ≡ some ns → names-of u ≡ some ms → formed x ≡ true → formed y ≡ true → v ≡ encode x → w ≡ encode y → r ≡ same-data ns x ms y
+  pub is : (ns ms : List Name) (x y : Node) → names-of t ≡ some ns → names-of u ≡ some ms → formed x ≡ true → formed y ≡ true → v ≡ encode x
+      → w ≡ encode y → r ≡ same-data ns x ms y

@@ -1,4 +1,5 @@
--- When two nodes, of two arenas, are structurally equal (01, "arena"): when their unfolded trees are, in which nothing is shared and names are texts.
+-- When two nodes, of two arenas, are structurally equal (01, "arena"): when their unfolded trees are, in which nothing is shared and names
+-- are texts.
 use Prim.Native.Nat.{ℕ}
 use mathlib.Core.Bool.{Bool, Bool-discrete}
 use mathlib.Core.List.{List, [], _∷_, map}
@@ -15,7 +16,8 @@ pub data Spelling : Type 0 where
   spelling : Bool → Name → Spelling
   deriving Discrete as Spelling-dec
 
--- what a node carries besides its children: the number of its kind, a number of its own, its fields, whether it has a dynamic part, whether it is open
+-- what a node carries besides its children: the number of its kind, a number of its own, its fields, whether it has a dynamic part, whether
+-- it is open
 pub data Label : Type 0 where
   label : ℕ → List ℕ → List Spelling → Bool → Bool → Label
   deriving Discrete as Label-dec

@@ -1,4 +1,5 @@
--- What `structurally_eq` answers: the left's 1 and 2, the right's, 6 for either root, and then whether the two are equal (01, "Who can cause which number").
+-- What `structurally_eq` answers: the left's 1 and 2, the right's, 6 for either root, and then whether the two are equal (01, "Who can
+-- cause which number").
 use Prim.Native.Nat.{ℕ}
 use mathlib.Core.Bool.{Bool}
 use mathlib.Core.List.{List}

@@ -27,8 +27,10 @@ fn equal_in(
     right: Counters,
     right_root: usize,
 ) -> Asked
-    requires { ⌜ Sides (now «left_table») (now «left_words») (now «left_starts») left (now «right_table») (now «right_words») (now «right_starts») right ⌝ }
-    ensures { λ r. ⌜ Answers (now («left_table» .entry)) (now («left_words» .entry)) (now («left_starts» .entry)) left «left_root» (now («right_table» .entry)) (now («right_words» .entry)) (now («right_starts» .entry)) right «right_root» (asked-out r) ⌝ }
+    requires { ⌜ Sides (now «left_table») (now «left_words») (now «left_starts») left (now «right_table») (now «right_words»)
+        (now «right_starts») right ⌝ }
+    ensures { λ r. ⌜ Answers (now («left_table» .entry)) (now («left_words» .entry)) (now («left_starts» .entry)) left «left_root»
+        (now («right_table» .entry)) (now («right_words» .entry)) (now («right_starts» .entry)) right «right_root» (asked-out r) ⌝ }
 {
     if left_root >= left.nodes {
         return Asked::Refused(6);
@@ -65,7 +67,8 @@ fn equal_right(
     right_root: u32,
 ) -> Asked
     requires { ⌜ Side (now «left_table») (now «left_words») (now «left_starts») left ⌝ }
-    ensures { λ r. ⌜ RightAnswers (now («left_table» .entry)) (now («left_words» .entry)) (now («left_starts» .entry)) left «left_root» (now («right_table» .entry)) (now («right_words» .entry)) (now («right_starts» .entry)) right «right_root» (asked-out r) ⌝ }
+    ensures { λ r. ⌜ RightAnswers (now («left_table» .entry)) (now («left_words» .entry)) (now («left_starts» .entry)) left «left_root»
+        (now («right_table» .entry)) (now («right_words» .entry)) (now («right_starts» .entry)) right «right_root» (asked-out r) ⌝ }
 {
     let lent = judge(right_table, right_words, right_starts, right);
     match lent {
@@ -98,7 +101,9 @@ pub fn structurally_eq(
     right: Counters,
     right_root: u32,
 ) -> Asked
-    ensures { λ r. ⌜ asked-out r ≡ equal-reply (now («left_table» .entry)) (now («left_words» .entry)) (now («left_starts» .entry)) left «left_root» (now («right_table» .entry)) (now («right_words» .entry)) (now («right_starts» .entry)) right «right_root» ⌝ }
+    ensures { λ r. ⌜ asked-out r
+        ≡ equal-reply (now («left_table» .entry)) (now («left_words» .entry)) (now («left_starts» .entry)) left «left_root»
+        (now («right_table» .entry)) (now («right_words» .entry)) (now («right_starts» .entry)) right «right_root» ⌝ }
 {
     let lent = judge(left_table, left_words, left_starts, left);
     match lent {

@@ -30,7 +30,8 @@ fn pair(partners: &mut [u32; 4096], left: u32, right: u32) -> bool
 // Gives each child in the words `a` the child beside it in the words `b` as its partner; false where one has another.
 fn pair_children(a: &[u32], b: &[u32], partners: &mut [u32; 4096]) -> bool
     requires { ⌜ Level (now a) (now b) (now partners) ⌝ }
-    ensures { λ r. ⌜ GivesAll (children-in (now (a .entry))) (children-in (now (b .entry))) (now (partners .entry)) (now (partners .exit)) r ⌝ }
+    ensures { λ r. ⌜ GivesAll (children-in (now (a .entry))) (children-in (now (b .entry))) (now (partners .entry))
+        (now (partners .exit)) r ⌝ }
 {
     let count = child_count(a);
     let mut i = 0;
@@ -64,8 +65,11 @@ fn visit(
     n: usize,
     partners: &mut [u32; 4096],
 ) -> bool
-    requires { ⌜ Visiting (now «left_table») (now «left_words») (now «left_starts») left (now «right_table») (now «right_words») (now «right_starts») right n (now partners) ⌝ }
-    ensures { λ r. ⌜ Visited (now («left_table» .entry)) (now («left_words» .entry)) (now («left_starts» .entry)) left (now («right_table» .entry)) (now («right_words» .entry)) (now («right_starts» .entry)) right n (now (partners .entry)) (now (partners .exit)) r ⌝ }
+    requires { ⌜ Visiting (now «left_table») (now «left_words») (now «left_starts») left (now «right_table») (now «right_words»)
+        (now «right_starts») right n (now partners) ⌝ }
+    ensures { λ r. ⌜ Visited (now («left_table» .entry)) (now («left_words» .entry)) (now («left_starts» .entry)) left
+        (now («right_table» .entry)) (now («right_words» .entry)) (now («right_starts» .entry)) right n (now (partners .entry))
+        (now (partners .exit)) r ⌝ }
 {
     let there = partner_of(partners, n);
     if there == 0 {
@@ -93,8 +97,10 @@ fn sweep(
     right_root: usize,
     partners: &mut [u32; 4096],
 ) -> bool
-    requires { ⌜ Fresh (now «left_table») (now «left_words») (now «left_starts») left «left_root» (now «right_table») (now «right_words») (now «right_starts») right «right_root» (now partners) ⌝ }
-    ensures { λ r. ⌜ Tells (now («left_table» .entry)) (now («left_words» .entry)) (now («left_starts» .entry)) left «left_root» (now («right_table» .entry)) (now («right_words» .entry)) (now («right_starts» .entry)) right «right_root» r ⌝ }
+    requires { ⌜ Fresh (now «left_table») (now «left_words») (now «left_starts») left «left_root» (now «right_table») (now «right_words»)
+        (now «right_starts») right «right_root» (now partners) ⌝ }
+    ensures { λ r. ⌜ Tells (now («left_table» .entry)) (now («left_words» .entry)) (now («left_starts» .entry)) left «left_root»
+        (now («right_table» .entry)) (now («right_words» .entry)) (now («right_starts» .entry)) right «right_root» r ⌝ }
 {
     partners[left_root] = right_root as u32 + 1;
     let mut n = left_root + 1;
@@ -131,8 +137,10 @@ pub(crate) fn agree(
     right: Counters,
     right_root: usize,
 ) -> bool
-    requires { ⌜ Roots (now «left_table») (now «left_words») (now «left_starts») left «left_root» (now «right_table») (now «right_words») (now «right_starts») right «right_root» ⌝ }
-    ensures { λ r. ⌜ Tells (now («left_table» .entry)) (now («left_words» .entry)) (now («left_starts» .entry)) left «left_root» (now («right_table» .entry)) (now («right_words» .entry)) (now («right_starts» .entry)) right «right_root» r ⌝ }
+    requires { ⌜ Roots (now «left_table») (now «left_words») (now «left_starts») left «left_root» (now «right_table») (now «right_words»)
+        (now «right_starts») right «right_root» ⌝ }
+    ensures { λ r. ⌜ Tells (now («left_table» .entry)) (now («left_words» .entry)) (now («left_starts» .entry)) left «left_root»
+        (now («right_table» .entry)) (now («right_words» .entry)) (now («right_starts» .entry)) right «right_root» r ⌝ }
 {
     let mut partners = [0u32; 4096];
     sweep(

@@ -33,7 +33,8 @@ pub record MarkedVar (a : Arena) (done : List ℕ) (v : ℕ) : Type 0 where
   pub of : VarNode a v
   pub marked : has done (of .node) ≡ true
 
--- the array holds the list l, then zeros; l has no variable twice, all variables of the nodes that are marked, and no variable whose node isn't
+-- the array holds the list l, then zeros; l has no variable twice, all variables of the nodes that are marked, and no variable whose node
+-- isn't
 pub record Listing (a : Arena) (done vars : List ℕ) (count : ℕ) (l : List ℕ) : Type 0 where
   pub rows : length done ≡ 64
   pub array : vars ≡ padded 4096 l
@@ -62,5 +63,7 @@ pub record Collecting (w s : List ℕ) (c : Counters) (n : ℕ) (done vars : Lis
   pub listing : Listing (lent .view) done vars count list
 
 -- the variables of node n are added to whatever list the array held, in any arena that memory holds
-pub record Collects (w s : List ℕ) (c : Counters) (n : ℕ) (done vars : List ℕ) (count : ℕ) (done′ vars′ : List ℕ) (count′ : ℕ) : Type 0 where
-  pub is : (table : ℕ) (a : Arena) → Holds table w s c a → (l : List ℕ) → Listing a done vars count l → Listing a done′ vars′ count′ (add-all l (occurrences a n))
+pub record Collects (w s : List ℕ) (c : Counters) (n : ℕ) (done vars : List ℕ) (count : ℕ) (done′ vars′ : List ℕ)
+    (count′ : ℕ) : Type 0 where
+  pub is : (table : ℕ) (a : Arena) → Holds table w s c a → (l : List ℕ) → Listing a done vars count l
+      → Listing a done′ vars′ count′ (add-all l (occurrences a n))

@@ -44,7 +44,8 @@ fn add_var(
     count: usize,
 ) -> usize
     requires { ⌜ VarRoom (now node) number (now done) count ⌝ }
-    ensures { λ r. ⌜ AddsVar (now (node .entry)) number (now (done .entry)) (now (vars .entry)) count (now (done .exit)) (now (vars .exit)) r ⌝ }
+    ensures { λ r. ⌜ AddsVar (now (node .entry)) number (now (done .entry)) (now (vars .entry)) count
+        (now (done .exit)) (now (vars .exit)) r ⌝ }
 {
     vars[count] = node[1];
     put(done, number);
@@ -64,7 +65,8 @@ fn collect(
     count: usize,
 ) -> usize
     requires { ⌜ Collecting (now words) (now starts) c n (now done) (now vars) count ⌝ }
-    ensures { λ r. ⌜ Collects (now (words .entry)) (now (starts .entry)) c n (now (done .entry)) (now (vars .entry)) count (now (done .exit)) (now (vars .exit)) r ⌝ }
+    ensures { λ r. ⌜ Collects (now (words .entry)) (now (starts .entry)) c n (now (done .entry)) (now (vars .entry)) count
+        (now (done .exit)) (now (vars .exit)) r ⌝ }
 {
     if test(done, n) {
         return count;

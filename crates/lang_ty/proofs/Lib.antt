@@ -1,9 +1,6 @@
 pub mod Telling
-pub mod Lists
-pub mod Unwrapping
 pub mod Numbers
 pub mod Passes
 pub mod Works
 pub mod Successes
-pub mod TellingArenas
 pub mod Copies

@@ -1,3 +1,2 @@
 pub mod Told
-pub mod Changed
 pub mod Numbered

@@ -24,7 +24,8 @@ pub data Numbered {A : Type 0} : Out A → Type 0 where
   value : (x : A) → Numbered (ok x)
   refusal : {e : ℕ} → 0 < e → Numbered (refuse e)
 
--- a host that is told the number r, with x where the result is lent, knows of the answer o that it was told: r is 0 exactly if o is a value, and then x is that value
+-- a host that is told the number r, with x where the result is lent, knows of the answer o that it was told: r is 0 exactly if o is a
+-- value, and then x is that value
 pub record ZeroIsValue {A : Type 0} (r : ℕ) (x : A) (o : Out A) : Type 0 where
   pub zero : r ≡ 0 → o ≡ ok x
   pub value : (y : A) → o ≡ ok y → r ≡ 0
@@ -36,7 +37,8 @@ answer-of (reply o c w s) = o
 abbrev pub length-of : DisplayReply → Out ℕ
 length-of (display-told o b) = o
 
--- of what each call is defined to answer the number is 0 exactly for a value. A call that is never refused isn't listed: it always answers 0
+-- of what each call is defined to answer the number is 0 exactly for a value. A call that is never refused isn't listed: it always answers
+-- 0
 pub record AllNumbered : Type 1 where
   pub table : (t : List ℕ) → Numbered (table-reply t)
   pub compare : (t w s : List ℕ) (c : Counters) (m n : ℕ) → Numbered (compare-reply t w s c m n)
@@ -45,6 +47,8 @@ pub record AllNumbered : Type 1 where
   pub display : (t w s : List ℕ) (c : Counters) (root : ℕ) (b : List ℕ) → Numbered (length-of (display-reply t w s c root b))
   pub intern : (t w s : List ℕ) (c : Counters) (ws : List ℕ) → Numbered (answer-of (intern-reply t w s c ws))
   pub simplify : (t w s : List ℕ) (c : Counters) (root : ℕ) → Numbered (answer-of (simplify-reply t w s c root))
-  pub normalize-vars : (replacing : Bool) (t w s : List ℕ) (c : Counters) (root : ℕ) → Numbered (answer-of (work-reply (normalize replacing) t w s c root))
+  pub normalize-vars : (replacing : Bool) (t w s : List ℕ) (c : Counters) (root : ℕ)
+      → Numbered (answer-of (work-reply (normalize replacing) t w s c root))
   pub normalize-set-ops : (t w s : List ℕ) (c : Counters) (root : ℕ) → Numbered (answer-of (work-reply normalize-set-ops t w s c root))
-  pub compact : (t w s : List ℕ) (c : Counters) (root : ℕ) (tw ts : List ℕ) (d : Counters) → Numbered (answer-of (compact-reply t w s c root tw ts d))
+  pub compact : (t w s : List ℕ) (c : Counters) (root : ℕ) (tw ts : List ℕ) (d : Counters)
+      → Numbered (answer-of (compact-reply t w s c root tw ts d))

@@ -1,4 +1,5 @@
--- What a call of the C interface answers and leaves, from what the call of that name is defined to answer (01, "Who can cause which number"): a number, which is 0 or that of a refusal, and lent memory.
+-- What a call of the C interface answers and leaves, from what the call of that name is defined to answer (01, "Who can cause which
+-- number"): a number, which is 0 or that of a refusal, and lent memory.
 use Prim.Native.Nat.{ℕ}
 use mathlib.Core.List.{List}
 use Rattle.types.specs.Out.{Out, ok, refuse, number, _>>=_}

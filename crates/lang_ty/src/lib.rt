@@ -1,5 +1,3 @@
-// The calls open to a host, as a static library for C and Rust. Each hands its arguments to the call of that name and tells
-// the answer as a number, 0 or that of a refusal; a result goes into lent memory, which a refusal leaves as it was.
-pub mod changing;
-pub mod reading;
-pub mod texts;
+// What a call of the C interface answers and leaves, by definition, and that 0 means success: specs/ has the definitions, proofs/
+// the theorems. The calls stand in `lang_ty_questions`, `lang_ty_rewriting` and `lang_ty_nodes_and_texts`, which host/archive
+// joins into one static library.

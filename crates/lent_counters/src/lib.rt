@@ -42,7 +42,8 @@ pub fn intern_lent(
     counters: &mut Counters,
     node: &[u32],
 ) -> Stored
-    ensures { λ r. ⌜ reply (stored-out r) (now (counters .exit)) (now (words .exit)) (now (starts .exit)) ≡ intern-reply (now (table .entry)) (now (words .entry)) (now (starts .entry)) (now (counters .entry)) (now (node .entry)) ⌝ }
+    ensures { λ r. ⌜ reply (stored-out r) (now (counters .exit)) (now (words .exit)) (now (starts .exit))
+        ≡ intern-reply (now (table .entry)) (now (words .entry)) (now (starts .entry)) (now (counters .entry)) (now (node .entry)) ⌝ }
 {
     let c = *counters;
     let answer = intern(table, words, starts, c, node);
@@ -59,7 +60,10 @@ pub fn intern_lent_pair(
     used: &mut usize,
     node: &[u32],
 ) -> Stored
-    ensures { λ r. ⌜ reply (stored-out r) record { nodes = now (nodes .exit); words = now (used .exit) } (now (words .exit)) (now (starts .exit)) ≡ intern-reply (now (table .entry)) (now (words .entry)) (now (starts .entry)) record { nodes = now (nodes .entry); words = now (used .entry) } (now (node .entry)) ⌝ }
+    ensures { λ r. ⌜ reply (stored-out r) record { nodes = now (nodes .exit); words = now (used .exit) } (now (words .exit))
+        (now (starts .exit))
+        ≡ intern-reply (now (table .entry)) (now (words .entry)) (now (starts .entry))
+        record { nodes = now (nodes .entry); words = now (used .entry) } (now (node .entry)) ⌝ }
 {
     let c = Counters {
         nodes: *nodes,

@@ -1,4 +1,5 @@
--- A member list as it grows and as it is closed (01, "simplify" and "Forms of the Rust that can't be kept"): what the functions ask and answer. `number` is that of the kind of list.
+-- A member list as it grows and as it is closed (01, "simplify" and "Forms of the Rust that can't be kept"): what the functions ask and
+-- answer. `number` is that of the kind of list.
 use Prim.Native.Nat.{ℕ, _+_, _≤_, _<_}
 use mathlib.Core.Path.{_≡_}
 use mathlib.Core.Bool.{true, false}
@@ -68,13 +69,16 @@ pub record Flattening (w s : List ℕ) (c : Counters) (number : ℕ) (ms items :
 
 -- what the members bring was appended
 pub record Flattens (w s : List ℕ) (c : Counters) (number : ℕ) (ms items : List ℕ) (count : ℕ) (items′ : List ℕ) (r : Grown) : Type 0 where
-  pub is : (table : ℕ) (a : Arena) (k : Polarity) → Holds table w s c a → number ≡ disc (kind (members k)) → Grows items count (flatMap (λ (m : ℕ). splice k m (at a m)) ms) items′ r
+  pub is : (table : ℕ) (a : Arena) (k : Polarity) → Holds table w s c a → number ≡ disc (kind (members k))
+      → Grows items count (flatMap (λ (m : ℕ). splice k m (at a m)) ms) items′ r
 
 -- ---- a list that is closed
 -- r is a member that decides the list, or says that there is none
 pub record Decides (w s : List ℕ) (c : Counters) (number : ℕ) (ms : List ℕ) (r : Decision) : Type 0 where
-  pub by : (n : ℕ) → r ≡ decision.By n → (table : ℕ) (a : Arena) (k : Polarity) → Holds table w s c a → number ≡ disc (kind (members k)) → Mem n ms × (tag (at a n) ≡ bound (opposite k))
-  pub not : r ≡ decision.Open → (table : ℕ) (a : Arena) (k : Polarity) → Holds table w s c a → number ≡ disc (kind (members k)) → is-decided k a ms ≡ false
+  pub by : (n : ℕ) → r ≡ decision.By n → (table : ℕ) (a : Arena) (k : Polarity) → Holds table w s c a → number ≡ disc (kind (members k))
+      → Mem n ms × (tag (at a n) ≡ bound (opposite k))
+  pub not : r ≡ decision.Open → (table : ℕ) (a : Arena) (k : Polarity) → Holds table w s c a → number ≡ disc (kind (members k))
+      → is-decided k a ms ≡ false
 
 -- r begins with the words of a node: its head, then the list
 pub record NodeWords (head : ℕ) (items : List ℕ) (count : ℕ) (r : List ℕ) : Type 0 where
@@ -92,7 +96,8 @@ pub record Filled (w s : List ℕ) (c : Counters) (number : ℕ) (items : List �
   pub some : 0 < count
 
 -- the answer, and memory after, are those of interning the list
-pub record InternsList (w s : List ℕ) (c : Counters) (number : ℕ) (items : List ℕ) (count : ℕ) (w′ s′ : List ℕ) (r : Interned) : Type 0 where
+pub record InternsList (w s : List ℕ) (c : Counters) (number : ℕ) (items : List ℕ) (count : ℕ) (w′ s′ : List ℕ)
+    (r : Interned) : Type 0 where
   pub is : (table : ℕ) (a : Arena) (k : Polarity) → Holds table w s c a → number ≡ disc (kind (members k))
       → left c r w′ s′ ≡ reply-of w s c (intern (length w) (length s) (node (members k) (take count items)) a)
 

@@ -81,7 +81,8 @@ fn splice(
     count: usize,
 ) -> Grown
     requires { ⌜ Splicing (now words) (now starts) c n (now items) count ⌝ }
-    ensures { λ r. ⌜ Flattens (now (words .entry)) (now (starts .entry)) c kind (n ∷ []) (now (items .entry)) count (now (items .exit)) r ⌝ }
+    ensures { λ r. ⌜ Flattens (now (words .entry)) (now (starts .entry)) c kind (n ∷ []) (now (items .entry)) count
+        (now (items .exit)) r ⌝ }
 {
     let own = kind_of(words, starts, c, n);
     if own == kind {
@@ -103,7 +104,8 @@ pub(crate) fn flatten(
     items: &mut [u32; 64],
 ) -> Grown
     requires { ⌜ Flattening (now words) (now starts) c kind (now members) (now items) ⌝ }
-    ensures { λ r. ⌜ Flattens (now (words .entry)) (now (starts .entry)) c kind (now (members .entry)) (now (items .entry)) 0 (now (items .exit)) r ⌝ }
+    ensures { λ r. ⌜ Flattens (now (words .entry)) (now (starts .entry)) c kind (now (members .entry)) (now (items .entry)) 0
+        (now (items .exit)) r ⌝ }
 {
     let mut held = 0;
     let mut i = 0;

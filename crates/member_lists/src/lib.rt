@@ -85,7 +85,8 @@ pub fn intern_list(
     list: Members,
 ) -> Interned
     requires { ⌜ Filled (now words) (now starts) c kind (list .items) (list .count) ⌝ }
-    ensures { λ r. ⌜ InternsList (now (words .entry)) (now (starts .entry)) c kind (list .items) (list .count) (now (words .exit)) (now (starts .exit)) r ⌝ }
+    ensures { λ r. ⌜ InternsList (now (words .entry)) (now (starts .entry)) c kind (list .items) (list .count) (now (words .exit))
+        (now (starts .exit)) r ⌝ }
 {
     let head = Head::new(kind, false, false, list.count);
     let node = node_words(head.word, list);
@@ -96,7 +97,8 @@ pub fn intern_list(
 // What stands for a list of a kind: one member for itself, several as a node.
 fn finish(words: &mut [u32], starts: &mut [u32], c: Counters, kind: u32, list: Members) -> Closed
     requires { ⌜ Listing (now words) (now starts) c kind (list .items) (list .count) ⌝ }
-    ensures { λ r. ⌜ Finishes (now (words .entry)) (now (starts .entry)) c kind (list .items) (list .count) (now (words .exit)) (now (starts .exit)) r ⌝ }
+    ensures { λ r. ⌜ Finishes (now (words .entry)) (now (starts .entry)) c kind (list .items) (list .count) (now (words .exit))
+        (now (starts .exit)) r ⌝ }
 {
     if list.count == 0 {
         return Closed::Empty;
@@ -116,7 +118,8 @@ fn close_open(
     members: &[u32],
 ) -> Closed
     requires { ⌜ Gathering (now words) (now starts) c kind (now members) ⌝ }
-    ensures { λ r. ⌜ ClosesOpen (now (words .entry)) (now (starts .entry)) c kind (now (members .entry)) (now (words .exit)) (now (starts .exit)) r ⌝ }
+    ensures { λ r. ⌜ ClosesOpen (now (words .entry)) (now (starts .entry)) c kind (now (members .entry)) (now (words .exit))
+        (now (starts .exit)) r ⌝ }
 {
     let mut items = [0u32; 64];
     let grown = flatten(words, starts, c, kind, members, &mut items);
@@ -138,7 +141,8 @@ pub fn close_list(
     count: usize,
 ) -> Closed
     requires { ⌜ Closing (now words) (now starts) c kind (now items) count ⌝ }
-    ensures { λ r. ⌜ Closes (now (words .entry)) (now (starts .entry)) c kind (now (items .entry)) count (now (words .exit)) (now (starts .exit)) r ⌝ }
+    ensures { λ r. ⌜ Closes (now (words .entry)) (now (starts .entry)) c kind (now (items .entry)) count (now (words .exit))
+        (now (starts .exit)) r ⌝ }
 {
     let members = first_items(items, count);
     let decided = decider(words, starts, c, kind, members);

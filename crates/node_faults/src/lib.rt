@@ -170,7 +170,9 @@ fn code_fault(body: &[u32]) -> u32
 fn children_fault(body: &[u32], nodes: usize) -> u32
     ensures { λ r. ⌜ r ≡ body-fault 0 nodes children false (now (body .entry)) ⌝ }
 {
-    first(children_zero(body), children_below(body, nodes), true)
+    let fits = children_zero(body);
+    let linked = children_below(body, nodes);
+    first(fits, linked, true)
 }
 
 // How many of a set's body words are field words.

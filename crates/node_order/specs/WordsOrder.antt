@@ -1,4 +1,5 @@
--- Node order as a program reads it off words, whatever they are. That on the words of formed nodes it is `node-order` is the theorem `words-order-encode`.
+-- Node order as a program reads it off words, whatever they are. That on the words of formed nodes it is `node-order` is the theorem
+-- `words-order-encode`.
 use Prim.Native.Nat.{ℕ, _-_, _<_, _≤_}
 use mathlib.Core.Path.{_≡_}
 use mathlib.Core.Bool.{Bool, true, false}

@@ -11,7 +11,8 @@ ghost use lib.ListN.{getD, drop};
 ghost use Rattle.words.specs.Words.{bit};
 ghost use Rattle.types.specs.Order.{order, lexicographic};
 ghost use Rattle.node_order.specs.NodeOrder.{keys-order};
-ghost use Rattle.node_order.specs.WordsOrder.{field-order, item-order, FieldCount, optional-order, NextOptional, part-keys, body-keys, words-order};
+ghost use Rattle.node_order.specs.WordsOrder.{field-order, item-order, FieldCount, optional-order, NextOptional, part-keys};
+ghost use Rattle.node_order.specs.WordsOrder.{body-keys, words-order};
 
 fn number_order(m: usize, n: usize) -> Ordering
     ensures { λ r. ⌜ r ≡ order m n ⌝ }
@@ -167,7 +168,8 @@ pub fn field_count(head: Head, count: usize) -> usize
 
 // Two nodes, each given as its head, its field words and its other words, key after key.
 fn parts_order(g: Head, e: &[u32], s: &[u32], h: Head, f: &[u32], t: &[u32]) -> Ordering
-    ensures { λ r. ⌜ r ≡ keys-order (part-keys (g .word) (now (e .entry)) (now (s .entry))) (part-keys (h .word) (now (f .entry)) (now (t .entry))) ⌝ }
+    ensures { λ r. ⌜ r
+        ≡ keys-order (part-keys (g .word) (now (e .entry)) (now (s .entry))) (part-keys (h .word) (now (f .entry)) (now (t .entry))) ⌝ }
 {
     let kinds = word_order(g.kind(), h.kind());
     let Ordering::Equal = kinds else {

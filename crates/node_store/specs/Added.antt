@@ -28,7 +28,8 @@ pub record Fresh (w s : List ℕ) (c : Counters) (ws : List ℕ) : Type 0 where
 
 -- the answer, and memory after, are the definition's
 pub record Interns (w s : List ℕ) (c : Counters) (ws w′ s′ : List ℕ) (r : Interned) : Type 0 where
-  pub is : (table : ℕ) (a : Arena) (x : Node) → Holds table w s c a → IsNode table (length a) ws x → left c r w′ s′ ≡ reply-of w s c (intern (length w) (length s) x a)
+  pub is : (table : ℕ) (a : Arena) (x : Node) → Holds table w s c a → IsNode table (length a) ws x
+      → left c r w′ s′ ≡ reply-of w s c (intern (length w) (length s) x a)
 
 -- memory that holds some arena under a table of so many names
 pub record Under (table : ℕ) (w s : List ℕ) (c : Counters) : Type 0 where

@@ -22,7 +22,8 @@ has-room words starts a = leb (length (flat a)) words && leb (length a) starts
 -- a node equal to a stored one gets the stored number, also where there is no room; another is added, or refused by 7
 unfoldable pub intern : ℕ → ℕ → Node → Arena → Out (ℕ × Arena)
 unfolding find has-room
-intern words starts x a = elim (find x a) [ some n ↦ ok (n, a) | none ↦ elim (has-room words starts (x ∷ a)) [ true ↦ ok (length a, x ∷ a) | false ↦ refuse 7 ] ]
+intern words starts x a =
+    elim (find x a) [ some n ↦ ok (n, a) | none ↦ elim (has-room words starts (x ∷ a)) [ true ↦ ok (length a, x ∷ a) | false ↦ refuse 7 ] ]
 
 -- the enum's cases: a node's number with the counters after; the number of a refusal, which leaves the counters as they were
 abbrev pub left : Counters → Interned → List ℕ → List ℕ → Reply ℕ

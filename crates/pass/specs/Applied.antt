@@ -23,7 +23,8 @@ use Rattle.pass.specs.declared.apply.Run.the-variants as run
 
 -- an outcome, from memory that held a: finished, it holds what grew from a, and the caches are right there; refused, a still stands in it
 pub data Leads (table : ℕ) (a : Arena) (R : ℕ → Bool) (w s dropped kept : List ℕ) : Interned → Out (ℕ × Arena) → Type 0 where
-  done : {m : ℕ} {d : Counters} {b : Arena} → Holds table w s d b → Ext a b → m < length b → Caches (length w) (length s) R b dropped kept → Leads table a R w s dropped kept (interned.Node m d) (ok (m, b))
+  done : {m : ℕ} {d : Counters} {b : Arena} → Holds table w s d b → Ext a b → m < length b → Caches (length w) (length s) R b dropped kept
+      → Leads table a R w s dropped kept (interned.Node m d) (ok (m, b))
   stop : {e : ℕ} → Stands w s a → Leads table a R w s dropped kept (interned.Refused e) (refuse e)
 
 -- memory holds an arena with a node n, the set has the nodes of the variables R below it, and the caches are right
@@ -37,8 +38,10 @@ pub record Ready (w s : List ℕ) (c : Counters) (n : ℕ) (removable dropped ke
   pub caches : Caches (length w) (length s) variables view dropped kept
 
 -- the outcome is the definition's, for any arena and variables of which that is so
-pub record Applies (w s : List ℕ) (c : Counters) (n : ℕ) (removable : List ℕ) (keep : Bool) (dropped kept w′ s′ dropped′ kept′ : List ℕ) (r : Interned) : Type 0 where
-  pub is : (table : ℕ) (a : Arena) (R : ℕ → Bool) → Holds table w s c a → Agrees removable R a n → Caches (length w) (length s) R a dropped kept
+pub record Applies (w s : List ℕ) (c : Counters) (n : ℕ) (removable : List ℕ) (keep : Bool) (dropped kept w′ s′ dropped′ kept′ : List ℕ)
+    (r : Interned) : Type 0 where
+  pub is : (table : ℕ) (a : Arena) (R : ℕ → Bool) → Holds table w s c a → Agrees removable R a n
+      → Caches (length w) (length s) R a dropped kept
       → Leads table a R w′ s′ dropped′ kept′ r (apply (length w) (length s) a n (setting keep R) a)
 
 -- node n is a member list of the kind with this number
@@ -67,11 +70,16 @@ pub record EachReady (w s : List ℕ) (c : Counters) (n : ℕ) (items : List ℕ
   pub low : below n (take count items) ≡ true
 
 -- an outcome for several nodes: finished, the items are what they became
-pub data LeadsEach (table : ℕ) (a : Arena) (R : ℕ → Bool) (w s dropped kept items : List ℕ) (count : ℕ) : Run → Out (List ℕ × Arena) → Type 0 where
-  went : {d : Counters} {b : Arena} {ms : List ℕ} → Holds table w s d b → Ext a b → Caches (length w) (length s) R b dropped kept → length items ≡ 65 → take count items ≡ ms → length ms ≡ count → below (length b) ms ≡ true
+pub data LeadsEach (table : ℕ) (a : Arena) (R : ℕ → Bool) (w s dropped kept items : List ℕ) (count : ℕ) : Run → Out
+    (List ℕ × Arena) → Type 0 where
+  went : {d : Counters} {b : Arena} {ms : List ℕ} → Holds table w s d b → Ext a b → Caches (length w) (length s) R b dropped kept
+      → length items ≡ 65 → take count items ≡ ms → length ms ≡ count → below (length b) ms ≡ true
       → LeadsEach table a R w s dropped kept items count (run.Went d) (ok (ms, b))
   stop : {e : ℕ} → Stands w s a → LeadsEach table a R w s dropped kept items count (run.Refused e) (refuse e)
 
-pub record AppliesEach (w s : List ℕ) (c : Counters) (n : ℕ) (items : List ℕ) (count : ℕ) (removable : List ℕ) (keep : Bool) (dropped kept w′ s′ items′ dropped′ kept′ : List ℕ) (r : Run) : Type 0 where
-  pub is : (table : ℕ) (a : Arena) (R : ℕ → Bool) → Holds table w s c a → Agrees removable R a n → Caches (length w) (length s) R a dropped kept
-      → LeadsEach table a R w′ s′ dropped′ kept′ items′ count r (each (λ (x : ℕ). apply (length w) (length s) a x (setting keep R)) (take count items) a)
+pub record AppliesEach (w s : List ℕ) (c : Counters) (n : ℕ) (items : List ℕ) (count : ℕ) (removable : List ℕ) (keep : Bool)
+    (dropped kept w′ s′ items′ dropped′ kept′ : List ℕ) (r : Run) : Type 0 where
+  pub is : (table : ℕ) (a : Arena) (R : ℕ → Bool) → Holds table w s c a → Agrees removable R a n
+      → Caches (length w) (length s) R a dropped kept
+      → LeadsEach table a R w′ s′ dropped′ kept′ items′ count r
+      (each (λ (x : ℕ). apply (length w) (length s) a x (setting keep R)) (take count items) a)

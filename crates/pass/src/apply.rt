@@ -45,7 +45,8 @@ pub fn apply_simplification(
     kept: &mut [u32; 4096],
 ) -> Interned
     requires { ⌜ Ready (now words) (now starts) c n (now removable) (now dropped) (now kept) ⌝ }
-    ensures { λ r. ⌜ Applies (now (words .entry)) (now (starts .entry)) c n (now (removable .entry)) keep (now (dropped .entry)) (now (kept .entry)) (now (words .exit)) (now (starts .exit)) (now (dropped .exit)) (now (kept .exit)) r ⌝ }
+    ensures { λ r. ⌜ Applies (now (words .entry)) (now (starts .entry)) c n (now (removable .entry)) keep (now (dropped .entry))
+        (now (kept .entry)) (now (words .exit)) (now (starts .exit)) (now (dropped .exit)) (now (kept .exit)) r ⌝ }
 {
     let hit = cached(dropped, kept, keep, n);
     if hit != 0 {
@@ -71,7 +72,8 @@ fn apply_simplification_uncached(
     kept: &mut [u32; 4096],
 ) -> Interned
     requires { ⌜ Ready (now words) (now starts) c n (now removable) (now dropped) (now kept) ⌝ }
-    ensures { λ r. ⌜ Applies (now (words .entry)) (now (starts .entry)) c n (now (removable .entry)) keep (now (dropped .entry)) (now (kept .entry)) (now (words .exit)) (now (starts .exit)) (now (dropped .exit)) (now (kept .exit)) r ⌝ }
+    ensures { λ r. ⌜ Applies (now (words .entry)) (now (starts .entry)) c n (now (removable .entry)) keep (now (dropped .entry))
+        (now (kept .entry)) (now (words .exit)) (now (starts .exit)) (now (dropped .exit)) (now (kept .exit)) r ⌝ }
 {
     let kind = kind_at(words, starts, c, wide(n));
     if (kind == Head::UNION) | (kind == Head::INTERSECTION) {
@@ -111,7 +113,8 @@ fn apply_list(
     kept: &mut [u32; 4096],
 ) -> Interned
     requires { ⌜ ListReady (now words) (now starts) c n kind (now removable) (now dropped) (now kept) ⌝ }
-    ensures { λ r. ⌜ Applies (now (words .entry)) (now (starts .entry)) c n (now (removable .entry)) keep (now (dropped .entry)) (now (kept .entry)) (now (words .exit)) (now (starts .exit)) (now (dropped .exit)) (now (kept .exit)) r ⌝ }
+    ensures { λ r. ⌜ Applies (now (words .entry)) (now (starts .entry)) c n (now (removable .entry)) keep (now (dropped .entry))
+        (now (kept .entry)) (now (words .exit)) (now (starts .exit)) (now (dropped .exit)) (now (kept .exit)) r ⌝ }
 {
     let first = first_member(words, starts, c, n);
     let mut list = remaining(words, starts, c, n, removable, keep);
@@ -156,7 +159,9 @@ fn apply_each(
     kept: &mut [u32; 4096],
 ) -> Run
     requires { ⌜ EachReady (now words) (now starts) c n (now items) count (now removable) (now dropped) (now kept) ⌝ }
-    ensures { λ r. ⌜ AppliesEach (now (words .entry)) (now (starts .entry)) c n (now (items .entry)) count (now (removable .entry)) keep (now (dropped .entry)) (now (kept .entry)) (now (words .exit)) (now (starts .exit)) (now (items .exit)) (now (dropped .exit)) (now (kept .exit)) r ⌝ }
+    ensures { λ r. ⌜ AppliesEach (now (words .entry)) (now (starts .entry)) c n (now (items .entry)) count (now (removable .entry)) keep
+        (now (dropped .entry)) (now (kept .entry)) (now (words .exit)) (now (starts .exit)) (now (items .exit)) (now (dropped .exit))
+        (now (kept .exit)) r ⌝ }
 {
     let mut last = c;
     let mut i = 0;

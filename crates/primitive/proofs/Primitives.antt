@@ -1,22 +1,23 @@
--- A table that has the short text of each list has the short text of the list at each place; past the end it is empty.
-use Prim.Native.Nat.{ℕ, zero, suc, _≤_, _<_}
-use mathlib.Core.Path.{_≡_, refl, ap, _∙_, sym}
-use mathlib.Core.List.{List, [], _∷_, map}
+-- The text of a code: that of the arm which has it, and none for a number that no arm has.
+use Prim.Native.Nat.{ℕ, suc, _≤_}
+use mathlib.Core.Path.{_≡_, ap, _∙_, sym}
+use mathlib.Core.List.{[]}
 use native.Mathlib.Omega.{arith}
-use lib.ListN.{length, getD, List·getD-eq-default}
+use lib.ListN.{List·getD-eq-default}
 use Rattle.types.specs.declared.short_text.ShortText.{ShortText}
 use Rattle.types.specs.Short.{short-text}
 use Rattle.primitive.specs.Primitive.{primitive-texts, primitive-text}
 
-getD-map : (l : List (List ℕ)) (k : ℕ) (d : ShortText) → k < length l → getD (map short-text l) k d ≡ short-text (getD l k [])
-getD-map [] k d h = absurd (omega arith)
-getD-map (x ∷ l) zero d h = refl
-getD-map (x ∷ l) (suc k) d h = getD-map l k d (omega arith)
+pub text-of : {t : ShortText} {k n : ℕ} → k ≡ n → t ≡ short-text (primitive-text n) → t ≡ short-text (primitive-text k)
+text-of e p = p ∙ ap (λ (i : ℕ). short-text (primitive-text i)) (sym e)
 
-pub texts-at : (k : ℕ) (d : ShortText) → k < 8 → getD (map short-text primitive-texts) k d ≡ short-text (primitive-text k)
-unfolding primitive-text
-texts-at k d h = getD-map primitive-texts k d h
+past : {n k : ℕ} → n ≤ k → (k ≡ n → ⊥) → suc n ≤ k
+past h e = omega (arith, h, e)
 
-pub texts-past : {t : ShortText} (k : ℕ) → t ≡ short-text [] → 8 ≤ k → t ≡ short-text (primitive-text k)
+pub no-text : {t : ShortText} {k : ℕ}
+    → (k ≡ 0 → ⊥) → (k ≡ 1 → ⊥) → (k ≡ 2 → ⊥) → (k ≡ 3 → ⊥) → (k ≡ 4 → ⊥) → (k ≡ 5 → ⊥) → (k ≡ 6 → ⊥) → (k ≡ 7 → ⊥)
+    → t ≡ short-text [] → t ≡ short-text (primitive-text k)
 unfolding primitive-text
-texts-past k e h = e ∙ ap short-text (sym (List·getD-eq-default primitive-texts [] h))
+no-text {k = k} n₀ n₁ n₂ n₃ n₄ n₅ n₆ n₇ e =
+    let h : 8 ≤ k = past (past (past (past (past (past (past (past (omega arith) n₀) n₁) n₂) n₃) n₄) n₅) n₆) n₇ in
+    e ∙ ap short-text (sym (List·getD-eq-default primitive-texts [] h))

@@ -8,40 +8,46 @@ pub struct PrimitiveTy {
     pub code: u32,
 }
 
-const TEXTS: [ShortText; 8] = [
-    ShortText {
-        bytes: *b"null\0\0\0\0\0\0\0",
-        len: 4,
-    },
-    ShortText {
-        bytes: *b"bool\0\0\0\0\0\0\0",
-        len: 4,
-    },
-    ShortText {
-        bytes: *b"int\0\0\0\0\0\0\0\0",
-        len: 3,
-    },
-    ShortText {
-        bytes: *b"float\0\0\0\0\0\0",
-        len: 5,
-    },
-    ShortText {
-        bytes: *b"string\0\0\0\0\0",
-        len: 6,
-    },
-    ShortText {
-        bytes: *b"path\0\0\0\0\0\0\0",
-        len: 4,
-    },
-    ShortText {
-        bytes: *b"uri\0\0\0\0\0\0\0\0",
-        len: 3,
-    },
-    ShortText {
-        bytes: *b"number\0\0\0\0\0",
-        len: 6,
-    },
-];
+// How each is printed.
+const NULL_TEXT: ShortText = ShortText {
+    bytes: *b"null\0\0\0\0\0\0\0",
+    len: 4,
+};
+
+const BOOL_TEXT: ShortText = ShortText {
+    bytes: *b"bool\0\0\0\0\0\0\0",
+    len: 4,
+};
+
+const INT_TEXT: ShortText = ShortText {
+    bytes: *b"int\0\0\0\0\0\0\0\0",
+    len: 3,
+};
+
+const FLOAT_TEXT: ShortText = ShortText {
+    bytes: *b"float\0\0\0\0\0\0",
+    len: 5,
+};
+
+const STRING_TEXT: ShortText = ShortText {
+    bytes: *b"string\0\0\0\0\0",
+    len: 6,
+};
+
+const PATH_TEXT: ShortText = ShortText {
+    bytes: *b"path\0\0\0\0\0\0\0",
+    len: 4,
+};
+
+const URI_TEXT: ShortText = ShortText {
+    bytes: *b"uri\0\0\0\0\0\0\0\0",
+    len: 3,
+};
+
+const NUMBER_TEXT: ShortText = ShortText {
+    bytes: *b"number\0\0\0\0\0",
+    len: 6,
+};
 
 impl PrimitiveTy {
     pub const NULL: u32 = 0;
@@ -88,11 +94,17 @@ impl PrimitiveTy {
     pub fn text(self) -> ShortText
         ensures { λ r. ⌜ r ≡ short-text (primitive-text (self .code)) ⌝ }
     {
-        let code = self.code as usize;
-        if code < 8 {
-            TEXTS[code]
-        } else {
-            ShortText::new()
+        let code = self.code;
+        match code {
+            PrimitiveTy::NULL => NULL_TEXT,
+            PrimitiveTy::BOOL => BOOL_TEXT,
+            PrimitiveTy::INT => INT_TEXT,
+            PrimitiveTy::FLOAT => FLOAT_TEXT,
+            PrimitiveTy::STRING => STRING_TEXT,
+            PrimitiveTy::PATH => PATH_TEXT,
+            PrimitiveTy::URI => URI_TEXT,
+            PrimitiveTy::NUMBER => NUMBER_TEXT,
+            _ => ShortText::new(),
         }
     }
 }

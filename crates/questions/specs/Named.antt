@@ -13,7 +13,8 @@ use Rattle.questions.specs.declared.named.Unwrapped.the-variants as unwr
 -- a named type stands for what its one child stands for, and any other node for itself (01, "arena")
 unfoldable pub unwrap-named : Arena → ℕ → ℕ
 unfolding rec
-unwrap-named = rec (λ (s : Arena) (x : Node) (f : ℕ → ℕ). elim (of-kind kinds.named x) [ true ↦ f (getD (children x) 0 0) | false ↦ length s ]) 0
+unwrap-named =
+    rec (λ (s : Arena) (x : Node) (f : ℕ → ℕ). elim (of-kind kinds.named x) [ true ↦ f (getD (children x) 0 0) | false ↦ length s ]) 0
 
 -- the enum's cases: the number of a node; that of a refusal
 abbrev pub unwrapped-out : Unwrapped → Out ℕ

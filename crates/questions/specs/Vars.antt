@@ -37,10 +37,12 @@ has-type-vars = has-var false
 abbrev pub contains-bare-tyvar : Arena → ℕ → Bool
 contains-bare-tyvar = has-var true
 
--- a path of children from node n to node u that takes none that is passed over; the theorems `var-walk` and `walk-var` say the questions with it
+-- a path of children from node n to node u that takes none that is passed over; the theorems `var-walk` and `walk-var` say the questions
+-- with it
 pub data Walk (skip : Bool) (a : Arena) : ℕ → ℕ → Type 0 where
   self : {n : ℕ} → Walk skip a n n
-  down : {n u : ℕ} (i : ℕ) → passed-over skip (disc (kind (tag (at a n)))) ≤ i → i < length (children (at a n)) → Walk skip a (getD (children (at a n)) i 0) u → Walk skip a n u
+  down : {n u : ℕ} (i : ℕ) → passed-over skip (disc (kind (tag (at a n)))) ≤ i → i < length (children (at a n))
+      → Walk skip a (getD (children (at a n)) i 0) u → Walk skip a n u
 
 -- the same of a node's words, where f says which children have one
 unfoldable pub words-have : Bool → (ℕ → Bool) → List ℕ → Bool

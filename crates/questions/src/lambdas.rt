@@ -103,7 +103,8 @@ pub fn has_shared_tyvar_across_lambda_params(
     c: Counters,
     root: u32,
 ) -> Asked
-    ensures { λ r. ⌜ asked-out r ≡ ask-reply has-shared-tyvar-across-lambda-params (now (table .entry)) (now (words .entry)) (now (starts .entry)) c root ⌝ }
+    ensures { λ r. ⌜ asked-out r
+        ≡ ask-reply has-shared-tyvar-across-lambda-params (now (table .entry)) (now (words .entry)) (now (starts .entry)) c root ⌝ }
 {
     let lent = judge(table, words, starts, c);
     match lent {

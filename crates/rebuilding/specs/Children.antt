@@ -29,7 +29,8 @@ pub record Lists (items : List ℕ) (count : ℕ) (xs : List ℕ) : Type 0 where
 
 -- r says whether node m is one of the variables that the set has
 pub record RemovesVar (w s : List ℕ) (c : Counters) (m : ℕ) (removable : List ℕ) (r : Bool) : Type 0 where
-  pub is : (table : ℕ) (a : Arena) (R : ℕ → Bool) (n : ℕ) → Holds table w s c a → Agrees removable R a n → m < n → r ≡ var-of R (tag (at a m))
+  pub is : (table : ℕ) (a : Arena) (R : ℕ → Bool) (n : ℕ) → Holds table w s c a → Agrees removable R a n → m < n
+      → r ≡ var-of R (tag (at a m))
 
 -- r says whether the member m is removable, for any variables that the set has
 pub record Removes (w s : List ℕ) (c : Counters) (m : ℕ) (removable : List ℕ) (r : Bool) : Type 0 where
@@ -37,7 +38,8 @@ pub record Removes (w s : List ℕ) (c : Counters) (m : ℕ) (removable : List �
 
 -- the same where `keep` says that no variable is removable
 pub record Drops (w s : List ℕ) (c : Counters) (m : ℕ) (removable : List ℕ) (keep r : Bool) : Type 0 where
-  pub is : (table : ℕ) (a : Arena) (R : ℕ → Bool) (n : ℕ) → Holds table w s c a → Agrees removable R a n → m < n → r ≡ is-removable (setting keep R) a m
+  pub is : (table : ℕ) (a : Arena) (R : ℕ → Bool) (n : ℕ) → Holds table w s c a → Agrees removable R a n → m < n
+      → r ≡ is-removable (setting keep R) a m
 
 -- there is space for an item behind the first `count`
 pub record Space (items : List ℕ) (count : ℕ) : Type 0 where
@@ -61,4 +63,5 @@ pub record AllChildren (w s : List ℕ) (c : Counters) (n : ℕ) (r : Children) 
 
 -- r lists those that remain
 pub record Remains (w s : List ℕ) (c : Counters) (n : ℕ) (removable : List ℕ) (keep : Bool) (r : Children) : Type 0 where
-  pub is : (table : ℕ) (a : Arena) (R : ℕ → Bool) → Holds table w s c a → Agrees removable R a n → Lists (r .items) (r .count) (remaining (setting keep R) a (children (at a n)))
+  pub is : (table : ℕ) (a : Arena) (R : ℕ → Bool) → Holds table w s c a → Agrees removable R a n
+      → Lists (r .items) (r .count) (remaining (setting keep R) a (children (at a n)))

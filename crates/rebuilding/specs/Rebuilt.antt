@@ -49,4 +49,5 @@ pub record Rebuilding (w s : List ℕ) (c : Counters) (n : ℕ) (items : List �
 
 -- the answer, and memory after, are those of interning the node with these children
 pub record Rebuilds (w s : List ℕ) (c : Counters) (n : ℕ) (items : List ℕ) (count : ℕ) (w′ s′ : List ℕ) (r : Interned) : Type 0 where
-  pub is : (table : ℕ) (a : Arena) → Holds table w s c a → left c r w′ s′ ≡ reply-of w s c (intern (length w) (length s) (node (tag (at a n)) (take count items)) a)
+  pub is : (table : ℕ) (a : Arena) → Holds table w s c a
+      → left c r w′ s′ ≡ reply-of w s c (intern (length w) (length s) (node (tag (at a n)) (take count items)) a)

@@ -61,7 +61,8 @@ fn intern_with(
 ) -> Interned
     requires { ⌜ Rebuilding (now words) (now starts) c n (now items) count ⌝ }
     requires { ⌜ 0 < count ⌝ }
-    ensures { λ r. ⌜ Rebuilds (now (words .entry)) (now (starts .entry)) c n (now (items .entry)) count (now (words .exit)) (now (starts .exit)) r ⌝ }
+    ensures { λ r. ⌜ Rebuilds (now (words .entry)) (now (starts .entry)) c n (now (items .entry)) count (now (words .exit))
+        (now (starts .exit)) r ⌝ }
 {
     let mut new = [0u32; 66];
     exchange(node_at(words, starts, c, wide(n)), items, count, &mut new);
@@ -80,7 +81,8 @@ pub fn rebuild(
     count: usize,
 ) -> Interned
     requires { ⌜ Rebuilding (now words) (now starts) c n (now items) count ⌝ }
-    ensures { λ r. ⌜ Rebuilds (now (words .entry)) (now (starts .entry)) c n (now (items .entry)) count (now (words .exit)) (now (starts .exit)) r ⌝ }
+    ensures { λ r. ⌜ Rebuilds (now (words .entry)) (now (starts .entry)) c n (now (items .entry)) count (now (words .exit))
+        (now (starts .exit)) r ⌝ }
 {
     if same_children(node_at(words, starts, c, wide(n)), items, count) {
         return Interned::Node(n, c);

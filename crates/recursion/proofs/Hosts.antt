@@ -7,7 +7,7 @@ use lib.ListN.{length, take, replicate}
 use Rattle.types.specs.Out.{Out, ok, refuse}
 use Rattle.types.specs.Arena.{Arena}
 use Rattle.types.specs.Memory.{flat, heads, words-of, starts-of, counters-of, Holds}
-use Rattle.types.specs.Reply.{reply-of, rooted}
+use Rattle.types.specs.Reply.{Reply, reply, reply-of, rooted}
 use Rattle.types.specs.declared.Counters.{Counters}
 use Rattle.types.proofs.Memories.{unique}
 use Rattle.types.proofs.Addresses.{length-heads}
@@ -20,7 +20,7 @@ use Rattle.soundness.specs.declared.Judged.the-variants as verdict
 use Rattle.node_store.specs.declared.added.Interned.{Interned}
 use Rattle.node_store.specs.declared.added.Interned.the-variants as interned
 use Rattle.soundness.proofs.Verdicts.{lent-names, lent-refused, lent-done}
-use Rattle.recursion.specs.Work.{TakesBack}
+use Rattle.recursion.specs.Work.{Stands, TakesBackNodes}
 use Rattle.recursion.specs.Hosted.{Work, work-reply, LeadsOnce, done, stop, Works, WorksLent}
 use Rattle.recursion.proofs.Leading.{Stopped}
 
@@ -42,7 +42,27 @@ module _ {table : ℕ} {a : Arena} {w s : List ℕ} where
   stopped (done H E l) e = let z : _≡_ {A = ℕ} 0 1 = cc in absurd (omega arith)
   stopped {x = x} (stop {e = y} S) e = let p : y ≡ x = cc in record { is = ap refuse p; stands = S }
 
--- ---- 6, and memory as lent
+-- ---- what a run leaves in memory of the same length
+module _ {A : Type 0} (w s : List ℕ) (c : Counters) {w′ s′ : List ℕ} (lw : length w′ ≡ length w) (ls : length s′ ≡ length s) where
+  -- finished, it is the reply of the arena that memory holds
+  pub held-reply : {table : ℕ} {d : Counters} {b : Arena} → Holds table w′ s′ d b → (v : A) → reply (ok v) d w′ s′ ≡ reply-of w s c (ok (v, b))
+  unfolding reply-of
+  held-reply {table} {d} {b} H v =
+      let cd : d ≡ counters-of b = λ i. record { nodes = H .nodes i; words = H .total i } in
+      let ww : w′ ≡ words-of (length w) b = H .words ∙ ap (λ (i : ℕ). words-of i b) lw in
+      let ss : s′ ≡ starts-of (length s) b = H .starts ∙ ap (λ (i : ℕ). starts-of i b) ls in
+      λ i. reply (ok v) (cd i) (ww i) (ss i)
+
+  -- refused and taken back, memory is as lent
+  pub back-reply : {table : ℕ} {a : Arena} {w″ s″ : List ℕ} → Holds table w s c a → Stands w′ s′ a → TakesBackNodes w′ s′ c w″ s″ → (u : ℕ) → _≡_ {A = Reply A} (reply (refuse u) c w″ s″) (reply-of w s c (refuse u))
+  unfolding reply-of
+  back-reply {table} {a} {w″} {s″} H S B u =
+      let ww : w″ ≡ w = B .words .is ∙ (λ i. take (H .total i) w′ ++ replicate (lw i - H .total i) 0) ∙ ap (λ (l : List ℕ). l ++ replicate (length w - length (flat a)) 0) (S .words) ∙ sym (H .words) in
+      let hs : length (heads a) ≡ length a = length-heads a in
+      let ss : s″ ≡ s = B .starts .is ∙ (λ i. take (H .nodes i) s′ ++ replicate (ls i - H .nodes i) 0) ∙ ap (λ (l : List ℕ). l ++ replicate (length s - length a) 0) (S .starts) ∙ ap (λ (k : ℕ). heads a ++ replicate (length s - k) 0) (sym hs) ∙ sym (H .starts) in
+      λ i. reply (refuse u) c (ww i) (ss i)
+
+-- ---- 6, and the run
 module _ {f : Work} {w s : List ℕ} {c : Counters} {root x : ℕ} (e : x ≡ root) where
   pub no-root : c .nodes ≤ x → WorksLent f w s c root w s (interned.Refused 6)
   unfolding reply-of
@@ -52,27 +72,18 @@ module _ {f : Work} {w s : List ℕ} {c : Counters} {root x : ℕ} (e : x ≡ ro
     run-is : {table : ℕ} {a : Arena} → Holds table w s c a → rooted root (f (length w) (length s) root) a ≡ f (length w) (length s) root a
     run-is {a = a} H = rooted-yes root (f (length w) (length s) root) a (omega (arith, e, h, H .nodes))
 
-    pub run-done : {n : ℕ} {d : Counters} → r ≡ interned.Node n d → length w′ ≡ length w → length s′ ≡ length s → WorksLent f w s c root w′ s′ (interned.Node n d)
-    unfolding reply-of
-    run-done {n} {d} q lw ls = record {
+    pub run-done : {n : ℕ} {d : Counters} → r ≡ interned.Node n d → length w′ ≡ length w → length s′ ≡ length s → WorksLent f w s c root w′ s′ r
+    run-done {n} q lw ls = record {
       is = λ table a H.
           let F = finished (S .is table a H) q in
-          let G = F .holds in
-          let cd : d ≡ counters-of (F .arena) = λ i. record { nodes = G .nodes i; words = G .total i } in
-          let ww : w′ ≡ words-of (length w) (F .arena) = G .words ∙ ap (λ (i : ℕ). words-of i (F .arena)) lw in
-          let ss : s′ ≡ starts-of (length s) (F .arena) = G .starts ∙ ap (λ (i : ℕ). starts-of i (F .arena)) ls in
-          (λ i. left c (interned.Node n (cd i)) (ww i) (ss i)) ∙ sym (ap (reply-of w s c) (run-is H ∙ F .is));
+          ap (λ (z : Interned). left c z w′ s′) q ∙ held-reply w s c lw ls (F .holds) n ∙ sym (ap (reply-of w s c) (run-is H ∙ F .is));
     }
 
-    pub run-stopped : {u : ℕ} → r ≡ interned.Refused u → {w″ s″ : List ℕ} → TakesBack w′ (c .words) w″ → TakesBack s′ (c .nodes) s″ → length w′ ≡ length w → length s′ ≡ length s → WorksLent f w s c root w″ s″ (interned.Refused u)
-    unfolding reply-of
-    run-stopped {u} q {w″} {s″} B D lw ls = record {
+    pub run-stopped : {u : ℕ} → r ≡ interned.Refused u → {w″ s″ : List ℕ} → TakesBackNodes w′ s′ c w″ s″ → length w′ ≡ length w → length s′ ≡ length s → WorksLent f w s c root w″ s″ (interned.Refused u)
+    run-stopped {u} q B lw ls = record {
       is = λ table a H.
           let T = stopped (S .is table a H) q in
-          let ww : w″ ≡ w = B .is ∙ (λ i. take (H .total i) w′ ++ replicate (lw i - H .total i) 0) ∙ ap (λ (l : List ℕ). l ++ replicate (length w - length (flat a)) 0) (T .stands .words) ∙ sym (H .words) in
-          let hs : length (heads a) ≡ length a = length-heads a in
-          let ss : s″ ≡ s = D .is ∙ (λ i. take (H .nodes i) s′ ++ replicate (ls i - H .nodes i) 0) ∙ ap (λ (l : List ℕ). l ++ replicate (length s - length a) 0) (T .stands .starts) ∙ ap (λ (k : ℕ). heads a ++ replicate (length s - k) 0) (sym hs) ∙ sym (H .starts) in
-          (λ i. left c (interned.Refused u) (ww i) (ss i)) ∙ sym (ap (reply-of w s c) (run-is H ∙ T .is));
+          back-reply w s c lw ls H (T .stands) B u ∙ sym (ap (reply-of w s c) (run-is H ∙ T .is));
     }
 
 -- ---- after 1 and 2

@@ -1,4 +1,5 @@
--- The cache of a recursion (01, "Forms of the Rust that can't be kept"): one entry for each of 4,096 nodes, 0 for nothing yet, else a node's number and one.
+-- The cache of a recursion (01, "Forms of the Rust that can't be kept"): one entry for each of 4,096 nodes, 0 for nothing yet, else a
+-- node's number and one.
 use Prim.Native.Nat.{ℕ, suc, _<_}
 use mathlib.Core.Path.{_≡_}
 use mathlib.Core.List.{List}

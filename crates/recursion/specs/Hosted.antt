@@ -22,12 +22,14 @@ Work = ℕ → ℕ → ℕ → Job
 -- after 1, 2 and 6, what the work gives; 7 and 8 come from it
 unfoldable pub work-reply : Work → List ℕ → List ℕ → List ℕ → Counters → ℕ → Reply ℕ
 unfolding reply-of tabled names-of judged rooted
-work-reply f t w s c root = reply-of w s c (tabled (names-of t) (λ (ns : List Name). judged (length ns) w s c (rooted root (f (length w) (length s) root))))
+work-reply f t w s c root =
+    reply-of w s c (tabled (names-of t) (λ (ns : List Name). judged (length ns) w s c (rooted root (f (length w) (length s) root))))
 
 -- ---- the inner functions
 -- an outcome, from memory that held a: finished, it holds what grew from a; refused, a still stands in it
 pub data LeadsOnce (table : ℕ) (a : Arena) (w s : List ℕ) : Interned → Out (ℕ × Arena) → Type 0 where
-  done : {m : ℕ} {d : Counters} {b : Arena} → Holds table w s d b → Ext a b → m < length b → LeadsOnce table a w s (interned.Node m d) (ok (m, b))
+  done : {m : ℕ} {d : Counters} {b : Arena} → Holds table w s d b → Ext a b → m < length b
+      → LeadsOnce table a w s (interned.Node m d) (ok (m, b))
   stop : {e : ℕ} → Stands w s a → LeadsOnce table a w s (interned.Refused e) (refuse e)
 
 -- the outcome is that of the work, in any arena that memory held

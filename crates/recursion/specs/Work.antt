@@ -35,7 +35,8 @@ pub record Stands (w s : List ℕ) (a : Arena) : Type 0 where
 
 -- an outcome, from memory that held a: finished, it holds what grew from a, and the cache is right there; refused, a still stands in it
 pub data Leads (table : ℕ) (a : Arena) (f : ℕ → Job) (count : ℕ) (w s entries : List ℕ) : Interned → Out (ℕ × Arena) → Type 0 where
-  done : {m : ℕ} {d : Counters} {b : Arena} → Holds table w s d b → Ext a b → m < length b → Cache f count b entries → Leads table a f count w s entries (interned.Node m d) (ok (m, b))
+  done : {m : ℕ} {d : Counters} {b : Arena} → Holds table w s d b → Ext a b → m < length b → Cache f count b entries
+      → Leads table a f count w s entries (interned.Node m d) (ok (m, b))
   stop : {e : ℕ} → Stands w s a → Leads table a f count w s entries (interned.Refused e) (refuse e)
 
 -- memory holds an arena, a source with a node n stands to it as B says, and the cache is right
@@ -49,27 +50,40 @@ pub record Ready (F : Recursion) (B : Relation) (w s : List ℕ) (c : Counters) 
   pub cache : Cache (F (length w) (length s) source) (length source) view entries
 
 -- the outcome is the definition's, for any source and arena of which that is so
-pub record Does (F : Recursion) (B : Relation) (w s : List ℕ) (c : Counters) (n : ℕ) (entries w′ s′ entries′ : List ℕ) (r : Interned) : Type 0 where
-  pub is : (table : ℕ) (u a : Arena) → Holds table w s c a → B table u a → n < length u → Cache (F (length w) (length s) u) (length u) a entries
+pub record Does (F : Recursion) (B : Relation) (w s : List ℕ) (c : Counters) (n : ℕ) (entries w′ s′ entries′ : List ℕ)
+    (r : Interned) : Type 0 where
+  pub is : (table : ℕ) (u a : Arena) → Holds table w s c a → B table u a → n < length u
+      → Cache (F (length w) (length s) u) (length u) a entries
       → Leads table a (F (length w) (length s) u) (length u) w′ s′ entries′ r (F (length w) (length s) u n a)
 
 -- the first `count` items are below n
-pub record EachReady (F : Recursion) (B : Relation) (w s : List ℕ) (c : Counters) (n : ℕ) (items : List ℕ) (count : ℕ) (entries : List ℕ) : Type 0 where
+pub record EachReady (F : Recursion) (B : Relation) (w s : List ℕ) (c : Counters) (n : ℕ) (items : List ℕ) (count : ℕ)
+    (entries : List ℕ) : Type 0 where
   pub ready : Ready F B w s c n entries
   pub long : length items ≡ 65
   pub few : count ≤ 65
   pub low : below n (take count items) ≡ true
 
 -- an outcome for several nodes: finished, the items are what they became
-pub data LeadsEach (table : ℕ) (a : Arena) (f : ℕ → Job) (size : ℕ) (w s entries items : List ℕ) (count : ℕ) : Run → Out (List ℕ × Arena) → Type 0 where
-  went : {d : Counters} {b : Arena} {ms : List ℕ} → Holds table w s d b → Ext a b → Cache f size b entries → length items ≡ 65 → take count items ≡ ms → length ms ≡ count → below (length b) ms ≡ true
+pub data LeadsEach (table : ℕ) (a : Arena) (f : ℕ → Job) (size : ℕ) (w s entries items : List ℕ) (count : ℕ) : Run → Out
+    (List ℕ × Arena) → Type 0 where
+  went : {d : Counters} {b : Arena} {ms : List ℕ} → Holds table w s d b → Ext a b → Cache f size b entries → length items ≡ 65
+      → take count items ≡ ms → length ms ≡ count → below (length b) ms ≡ true
       → LeadsEach table a f size w s entries items count (run.Went d) (ok (ms, b))
   stop : {e : ℕ} → Stands w s a → LeadsEach table a f size w s entries items count (run.Refused e) (refuse e)
 
-pub record DoesEach (F : Recursion) (B : Relation) (w s : List ℕ) (c : Counters) (n : ℕ) (items : List ℕ) (count : ℕ) (entries w′ s′ items′ entries′ : List ℕ) (r : Run) : Type 0 where
-  pub is : (table : ℕ) (u a : Arena) → Holds table w s c a → B table u a → n < length u → Cache (F (length w) (length s) u) (length u) a entries
-      → LeadsEach table a (F (length w) (length s) u) (length u) w′ s′ entries′ items′ count r (each (F (length w) (length s) u) (take count items) a)
+pub record DoesEach (F : Recursion) (B : Relation) (w s : List ℕ) (c : Counters) (n : ℕ) (items : List ℕ) (count : ℕ)
+    (entries w′ s′ items′ entries′ : List ℕ) (r : Run) : Type 0 where
+  pub is : (table : ℕ) (u a : Arena) → Holds table w s c a → B table u a → n < length u
+      → Cache (F (length w) (length s) u) (length u) a entries
+      → LeadsEach table a (F (length w) (length s) u) (length u) w′ s′ entries′ items′ count r
+      (each (F (length w) (length s) u) (take count items) a)
 
 -- the words before the place stay, and the others are zero
 pub record TakesBack (w : List ℕ) (from : ℕ) (w′ : List ℕ) : Type 0 where
   pub is : w′ ≡ take from w ++ replicate (length w - from) 0
+
+-- the words and starts of the counted nodes stay, and the others are zero
+pub record TakesBackNodes (w s : List ℕ) (c : Counters) (w′ s′ : List ℕ) : Type 0 where
+  pub words : TakesBack w (c .words) w′
+  pub starts : TakesBack s (c .nodes) s′

@@ -4,7 +4,7 @@ ghost use mathlib.Core.Path.{_≡_};
 ghost use Prim.Native.Nat.{_<_};
 ghost use lib.ListN.{getD};
 ghost use Rattle.recursion.specs.Cache.{CacheRoom, Remembers};
-ghost use Rattle.recursion.specs.Work.{TakesBack};
+ghost use Rattle.recursion.specs.Work.{TakesBack, TakesBackNodes};
 use types::Counters;
 
 // Whether several nodes were worked on, with the counters after, or the number of a refusal.
@@ -46,4 +46,12 @@ pub fn take_back(words: &mut [u32], from: usize)
         words[i] = 0;
         i += 1;
     }
+}
+
+// Clears what stands past the counted nodes, in words and starts: what a refused run has added.
+pub fn take_back_nodes(words: &mut [u32], starts: &mut [u32], c: Counters)
+    ensures { λ _. ⌜ TakesBackNodes (now (words .entry)) (now (starts .entry)) c (now (words .exit)) (now (starts .exit)) ⌝ }
+{
+    take_back(words, c.words);
+    take_back(starts, c.nodes);
 }

@@ -31,4 +31,5 @@ unknown = 4294967295
 unfoldable pub normalize : Bool → ℕ → ℕ → ℕ → Job
 unfolding normalize-vars intern at
 normalize false words starts root a = normalize-vars words starts root a
-normalize true words starts root a = elim (var-number (tag (at a root))) [ none ↦ normalize-vars words starts root a | some v ↦ intern words starts (var-node unknown) a ]
+normalize true words starts root a =
+    elim (var-number (tag (at a root))) [ none ↦ normalize-vars words starts root a | some v ↦ intern words starts (var-node unknown) a ]

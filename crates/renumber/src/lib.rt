@@ -2,7 +2,7 @@
 use free_vars::list_vars;
 use node_reading::nodes::kind_at;
 use node_store::added::Interned;
-use recursion::take_back;
+use recursion::take_back_nodes;
 use renumbering::nodes::renumber_node;
 use renumbering::vars::intern_var;
 use soundness::Judged;
@@ -42,7 +42,8 @@ fn normalize_in(
     unknown: bool,
 ) -> Interned
     requires { ⌜ InRange (now words) (now starts) c root ⌝ }
-    ensures { λ r. ⌜ Works (normalize unknown) (now (words .entry)) (now (starts .entry)) c root (now (words .exit)) (now (starts .exit)) r ⌝ }
+    ensures { λ r. ⌜ Works (normalize unknown) (now (words .entry)) (now (starts .entry)) c root (now (words .exit))
+        (now (starts .exit)) r ⌝ }
 {
     if unknown & (kind_at(words, starts, c, wide(root)) == Head::TY_VAR) {
         return intern_var(words, starts, c, UNKNOWN_TYVAR);
@@ -59,20 +60,18 @@ fn normalize_lent(
     unknown: bool,
 ) -> Interned
     requires { ⌜ Lent (now words) (now starts) c ⌝ }
-    ensures { λ r. ⌜ WorksLent (normalize unknown) (now (words .entry)) (now (starts .entry)) c root (now (words .exit)) (now (starts .exit)) r ⌝ }
+    ensures { λ r. ⌜ WorksLent (normalize unknown) (now (words .entry)) (now (starts .entry)) c root (now (words .exit))
+        (now (starts .exit)) r ⌝ }
 {
     if wide(root) >= c.nodes {
         return Interned::Refused(6);
     }
     let r = normalize_in(words, starts, c, root, unknown);
-    match r {
-        Interned::Node(n, d) => Interned::Node(n, d),
-        Interned::Refused(number) => {
-            take_back(words, c.words);
-            take_back(starts, c.nodes);
-            Interned::Refused(number)
-        }
-    }
+    let Interned::Refused(number) = r else {
+        return r;
+    };
+    take_back_nodes(words, starts, c);
+    Interned::Refused(number)
 }
 
 // The same in any memory.
@@ -84,13 +83,14 @@ fn normalize_any(
     root: u32,
     unknown: bool,
 ) -> Interned
-    ensures { λ r. ⌜ left c r (now (words .exit)) (now (starts .exit)) ≡ work-reply (normalize unknown) (now (table .entry)) (now (words .entry)) (now (starts .entry)) c root ⌝ }
+    ensures { λ r. ⌜ left c r (now (words .exit)) (now (starts .exit))
+        ≡ work-reply (normalize unknown) (now (table .entry)) (now (words .entry)) (now (starts .entry)) c root ⌝ }
 {
     let lent = judge(table, words, starts, c);
-    match lent {
-        Judged::Names(count) => normalize_lent(words, starts, c, root, unknown),
-        Judged::Refused(number) => Interned::Refused(number),
-    }
+    let Judged::Refused(number) = lent else {
+        return normalize_lent(words, starts, c, root, unknown);
+    };
+    Interned::Refused(number)
 }
 
 // The type of the root with its variables numbered from 0 in the order of a first visit.
@@ -101,7 +101,8 @@ pub fn normalize_vars(
     c: Counters,
     root: u32,
 ) -> Interned
-    ensures { λ r. ⌜ left c r (now (words .exit)) (now (starts .exit)) ≡ work-reply (normalize false) (now (table .entry)) (now (words .entry)) (now (starts .entry)) c root ⌝ }
+    ensures { λ r. ⌜ left c r (now (words .exit)) (now (starts .exit))
+        ≡ work-reply (normalize false) (now (table .entry)) (now (words .entry)) (now (starts .entry)) c root ⌝ }
 {
     normalize_any(table, words, starts, c, root, false)
 }
@@ -114,7 +115,8 @@ pub fn normalize_replacing_unknown(
     c: Counters,
     root: u32,
 ) -> Interned
-    ensures { λ r. ⌜ left c r (now (words .exit)) (now (starts .exit)) ≡ work-reply (normalize true) (now (table .entry)) (now (words .entry)) (now (starts .entry)) c root ⌝ }
+    ensures { λ r. ⌜ left c r (now (words .exit)) (now (starts .exit))
+        ≡ work-reply (normalize true) (now (table .entry)) (now (words .entry)) (now (starts .entry)) c root ⌝ }
 {
     normalize_any(table, words, starts, c, root, true)
 }

@@ -35,4 +35,5 @@ pub record InternsVar (w s : List ℕ) (c : Counters) (v : ℕ) (w′ s′ : Lis
 
 -- those of interning the variable of the place in the list that the variable at node n has
 pub record RenumbersVar (vars w s : List ℕ) (c : Counters) (n : ℕ) (w′ s′ : List ℕ) (r : Interned) : Type 0 where
-  pub is : (table : ℕ) (a : Arena) (v : ℕ) → Holds table w s c a → tag (at a n) ≡ var v → left c r w′ s′ ≡ reply-of w s c (intern (length w) (length s) (var-node (index vars v)) a)
+  pub is : (table : ℕ) (a : Arena) (v : ℕ) → Holds table w s c a → tag (at a n) ≡ var v
+      → left c r w′ s′ ≡ reply-of w s c (intern (length w) (length s) (var-node (index vars v)) a)

@@ -28,7 +28,8 @@ abbrev pub var-node : ℕ → Node
 var-node v = node (var v) []
 
 module _ (vars : List ℕ) (words starts : ℕ) where
-  -- a variable becomes the variable of its place in the list; of any other node the children are renumbered from left to right, then the node is interned
+  -- a variable becomes the variable of its place in the list; of any other node the children are renumbered from left to right, then the
+  -- node is interned
   unfoldable pub renumber-step : Arena → Node → (ℕ → Job) → Job
   unfolding rebuild intern index
   renumber-step s x f a = elim (var-number (tag x)) [

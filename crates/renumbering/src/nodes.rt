@@ -25,7 +25,8 @@ pub fn renumber_node(
     cache: &mut [u32; 4096],
 ) -> Interned
     requires { ⌜ Ready (renumbered (now vars)) (Numbered (now vars)) (now words) (now starts) c n (now cache) ⌝ }
-    ensures { λ r. ⌜ Does (renumbered (now (vars .entry))) (Numbered (now (vars .entry))) (now (words .entry)) (now (starts .entry)) c n (now (cache .entry)) (now (words .exit)) (now (starts .exit)) (now (cache .exit)) r ⌝ }
+    ensures { λ r. ⌜ Does (renumbered (now (vars .entry))) (Numbered (now (vars .entry))) (now (words .entry)) (now (starts .entry)) c n
+        (now (cache .entry)) (now (words .exit)) (now (starts .exit)) (now (cache .exit)) r ⌝ }
 {
     let hit = cached(cache, n);
     if hit != 0 {
@@ -49,7 +50,8 @@ fn renumber_uncached(
     cache: &mut [u32; 4096],
 ) -> Interned
     requires { ⌜ Ready (renumbered (now vars)) (Numbered (now vars)) (now words) (now starts) c n (now cache) ⌝ }
-    ensures { λ r. ⌜ Does (renumbered (now (vars .entry))) (Numbered (now (vars .entry))) (now (words .entry)) (now (starts .entry)) c n (now (cache .entry)) (now (words .exit)) (now (starts .exit)) (now (cache .exit)) r ⌝ }
+    ensures { λ r. ⌜ Does (renumbered (now (vars .entry))) (Numbered (now (vars .entry))) (now (words .entry)) (now (starts .entry)) c n
+        (now (cache .entry)) (now (words .exit)) (now (starts .exit)) (now (cache .exit)) r ⌝ }
 {
     if kind_at(words, starts, c, wide(n)) == Head::TY_VAR {
         return renumber_var(words, starts, c, n, vars);
@@ -75,7 +77,9 @@ fn renumber_each(
     cache: &mut [u32; 4096],
 ) -> Run
     requires { ⌜ EachReady (renumbered (now vars)) (Numbered (now vars)) (now words) (now starts) c n (now items) count (now cache) ⌝ }
-    ensures { λ r. ⌜ DoesEach (renumbered (now (vars .entry))) (Numbered (now (vars .entry))) (now (words .entry)) (now (starts .entry)) c n (now (items .entry)) count (now (cache .entry)) (now (words .exit)) (now (starts .exit)) (now (items .exit)) (now (cache .exit)) r ⌝ }
+    ensures { λ r. ⌜ DoesEach (renumbered (now (vars .entry))) (Numbered (now (vars .entry))) (now (words .entry))
+        (now (starts .entry)) c n (now (items .entry)) count (now (cache .entry)) (now (words .exit))
+        (now (starts .exit)) (now (items .exit)) (now (cache .exit)) r ⌝ }
 {
     let mut last = c;
     let mut i = 0;

@@ -54,7 +54,8 @@ pub fn renumber_var(
 ) -> Interned
     requires { ⌜ VarAt (now words) (now starts) c n ⌝ }
     requires { ⌜ length (now vars) ≤ 4096 ⌝ }
-    ensures { λ r. ⌜ RenumbersVar (now (vars .entry)) (now (words .entry)) (now (starts .entry)) c n (now (words .exit)) (now (starts .exit)) r ⌝ }
+    ensures { λ r. ⌜ RenumbersVar (now (vars .entry)) (now (words .entry)) (now (starts .entry)) c n (now (words .exit))
+        (now (starts .exit)) r ⌝ }
 {
     let v = var_at(words, starts, c, wide(n));
     let place = index_of(vars, v);

@@ -24,7 +24,8 @@ use Rattle.set_op_lists.specs.declared.Brought.the-variants as brought
 
 -- what the node m brings was appended
 pub record Appends (w s : List ℕ) (c : Counters) (number m : ℕ) (items : List ℕ) (count : ℕ) (items′ : List ℕ) (r : Grown) : Type 0 where
-  pub is : (table : ℕ) (a : Arena) (k : Polarity) → Holds table w s c a → number ≡ disc (kind (members k)) → Grows items count (brings k m (at a m)) items′ r
+  pub is : (table : ℕ) (a : Arena) (k : Polarity) → Holds table w s c a → number ≡ disc (kind (members k))
+      → Grows items count (brings k m (at a m)) items′ r
 
 -- a member's outcome, and room for what it brings to a list: if it is a node, memory holds an arena with that node
 pub record Bringing (w s : List ℕ) (r : Interned) (number : ℕ) (items : List ℕ) (count : ℕ) : Type 0 where
@@ -39,10 +40,12 @@ brought-out items (brought.Held n d) = ok (take n items)
 brought-out items (brought.Refused e) = refuse e
 
 -- what the node m brings was appended, and the counters are as after it
-pub record BringsNode (w s : List ℕ) (c : Counters) (number m : ℕ) (items : List ℕ) (count : ℕ) (items′ : List ℕ) (b : Brought) : Type 0 where
+pub record BringsNode (w s : List ℕ) (c : Counters) (number m : ℕ) (items : List ℕ) (count : ℕ) (items′ : List ℕ)
+    (b : Brought) : Type 0 where
   pub room : (n : ℕ) (d : Counters) → b ≡ brought.Held n d → Room items′ n
   pub counters : (n : ℕ) (d : Counters) → b ≡ brought.Held n d → c ≡ d
-  pub is : (table : ℕ) (a : Arena) (k : Polarity) → Holds table w s c a → number ≡ disc (kind (members k)) → brought-out items′ b ≡ first-copies (take count items) (brings k m (at a m))
+  pub is : (table : ℕ) (a : Arena) (k : Polarity) → Holds table w s c a → number ≡ disc (kind (members k))
+      → brought-out items′ b ≡ first-copies (take count items) (brings k m (at a m))
 
 -- a refusal is passed on, a node brings what it has
 pub record Brings (w s : List ℕ) (r : Interned) (number : ℕ) (items : List ℕ) (count : ℕ) (items′ : List ℕ) (b : Brought) : Type 0 where
@@ -51,4 +54,5 @@ pub record Brings (w s : List ℕ) (r : Interned) (number : ℕ) (items : List �
 
 -- the answer, and memory after, are those of what stands for the sorted list
 pub record StandsFor (w s : List ℕ) (c : Counters) (number : ℕ) (items : List ℕ) (count : ℕ) (w′ s′ : List ℕ) (r : Interned) : Type 0 where
-  pub is : (table : ℕ) (a : Arena) (k : Polarity) → Holds table w s c a → number ≡ disc (kind (members k)) → left c r w′ s′ ≡ reply-of w s c (stand-for (length w) (length s) k (sort a (take count items)) a)
+  pub is : (table : ℕ) (a : Arena) (k : Polarity) → Holds table w s c a → number ≡ disc (kind (members k))
+      → left c r w′ s′ ≡ reply-of w s c (stand-for (length w) (length s) k (sort a (take count items)) a)

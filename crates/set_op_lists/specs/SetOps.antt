@@ -14,17 +14,20 @@ use Rattle.simplification.specs.Seen.{same-tag}
 use Rattle.simplification.specs.Pass.{first-copies, list-kind}
 use Rattle.member_sorting.specs.Sort.{sort}
 
--- what a normalized member m, the node x, brings to a list of kind k: a list of that kind its own members, any other itself, `never` and `any` too
+-- what a normalized member m, the node x, brings to a list of kind k: a list of that kind its own members, any other itself, `never` and
+-- `any` too
 unfoldable pub brings : Polarity → ℕ → Node → List ℕ
 unfolding same-tag
 brings k m x = elim (same-tag (tag x) (members k)) [ true ↦ children x | false ↦ m ∷ [] ]
 
--- the list so far, and the first copies of what the members bring, each normalized in its turn: what it brings is appended before the next is normalized,
+-- the list so far, and the first copies of what the members bring, each normalized in its turn: what it brings is appended before the next
+-- is normalized,
 -- and so 8 may come before a later member's 7
 unfoldable pub flatten : Polarity → (ℕ → Job) → List ℕ → List ℕ → Arena → Out (List ℕ × Arena)
 unfolding first-copies brings at _>>=_
 flatten k f acc [] a = ok (acc, a)
-flatten k f acc (c ∷ cs) a = f c a >>= λ r. first-copies acc (brings k (r .0) (at (r .1) (r .0))) >>= λ (l : List ℕ). flatten k f l cs (r .1)
+flatten k f acc (c ∷ cs) a =
+    f c a >>= λ r. first-copies acc (brings k (r .0) (at (r .1) (r .0))) >>= λ (l : List ℕ). flatten k f l cs (r .1)
 
 module _ (words starts : ℕ) where
   -- what stands for a list: one member for itself, more as a node

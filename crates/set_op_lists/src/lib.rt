@@ -75,7 +75,8 @@ fn close_sorted(
     count: usize,
 ) -> Interned
     requires { ⌜ Filled (now words) (now starts) c kind (now items) count ⌝ }
-    ensures { λ r. ⌜ StandsFor (now (words .entry)) (now (starts .entry)) c kind (now (items .entry)) count (now (words .exit)) (now (starts .exit)) r ⌝ }
+    ensures { λ r. ⌜ StandsFor (now (words .entry)) (now (starts .entry)) c kind (now (items .entry)) count (now (words .exit))
+        (now (starts .exit)) r ⌝ }
 {
     let all: &[u32] = items;
     let mut sorted = [0u32; 64];
@@ -105,7 +106,8 @@ pub fn close_list(
     count: usize,
 ) -> Interned
     requires { ⌜ Filled (now words) (now starts) c kind (now items) count ⌝ }
-    ensures { λ r. ⌜ StandsFor (now (words .entry)) (now (starts .entry)) c kind (now (items .entry)) count (now (words .exit)) (now (starts .exit)) r ⌝ }
+    ensures { λ r. ⌜ StandsFor (now (words .entry)) (now (starts .entry)) c kind (now (items .entry)) count (now (words .exit))
+        (now (starts .exit)) r ⌝ }
 {
     if kind == Head::UNION {
         return close_sorted(words, starts, c, Head::UNION, items, count);

@@ -1,6 +1,6 @@
 // `normalize_set_ops`: unions and intersections flattened, sorted and without repeats.
 use node_store::added::Interned;
-use recursion::take_back;
+use recursion::take_back_nodes;
 use set_ops_pass::normalize_set_ops_cached;
 use soundness::Judged;
 use soundness::judge;
@@ -15,7 +15,8 @@ ghost use Rattle.set_op_lists.specs.SetOps.{normalize-set-ops};
 // In an arena that is known to be sound and has the root. A refusal leaves the nodes that were added.
 fn normalize_in(words: &mut [u32], starts: &mut [u32], c: Counters, root: u32) -> Interned
     requires { ⌜ InRange (now words) (now starts) c root ⌝ }
-    ensures { λ r. ⌜ Works normalize-set-ops (now (words .entry)) (now (starts .entry)) c root (now (words .exit)) (now (starts .exit)) r ⌝ }
+    ensures { λ r. ⌜ Works normalize-set-ops (now (words .entry)) (now (starts .entry)) c root (now (words .exit))
+        (now (starts .exit)) r ⌝ }
 {
     let mut cache = [0u32; 4096];
     normalize_set_ops_cached(words, starts, c, root, &mut cache)
@@ -24,20 +25,18 @@ fn normalize_in(words: &mut [u32], starts: &mut [u32], c: Counters, root: u32) -
 // The same for any root; a refusal takes back the nodes that were added.
 fn normalize_lent(words: &mut [u32], starts: &mut [u32], c: Counters, root: u32) -> Interned
     requires { ⌜ Lent (now words) (now starts) c ⌝ }
-    ensures { λ r. ⌜ WorksLent normalize-set-ops (now (words .entry)) (now (starts .entry)) c root (now (words .exit)) (now (starts .exit)) r ⌝ }
+    ensures { λ r. ⌜ WorksLent normalize-set-ops (now (words .entry)) (now (starts .entry)) c root
+        (now (words .exit)) (now (starts .exit)) r ⌝ }
 {
     if wide(root) >= c.nodes {
         return Interned::Refused(6);
     }
     let r = normalize_in(words, starts, c, root);
-    match r {
-        Interned::Node(n, d) => Interned::Node(n, d),
-        Interned::Refused(number) => {
-            take_back(words, c.words);
-            take_back(starts, c.nodes);
-            Interned::Refused(number)
-        }
-    }
+    let Interned::Refused(number) = r else {
+        return r;
+    };
+    take_back_nodes(words, starts, c);
+    Interned::Refused(number)
 }
 
 // The type of the root with every union and intersection flattened, sorted and without repeats.
@@ -48,11 +47,12 @@ pub fn normalize_set_ops(
     c: Counters,
     root: u32,
 ) -> Interned
-    ensures { λ r. ⌜ left c r (now (words .exit)) (now (starts .exit)) ≡ work-reply normalize-set-ops (now (table .entry)) (now (words .entry)) (now (starts .entry)) c root ⌝ }
+    ensures { λ r. ⌜ left c r (now (words .exit)) (now (starts .exit))
+        ≡ work-reply normalize-set-ops (now (table .entry)) (now (words .entry)) (now (starts .entry)) c root ⌝ }
 {
     let lent = judge(table, words, starts, c);
-    match lent {
-        Judged::Names(count) => normalize_lent(words, starts, c, root),
-        Judged::Refused(number) => Interned::Refused(number),
-    }
+    let Judged::Refused(number) = lent else {
+        return normalize_lent(words, starts, c, root);
+    };
+    Interned::Refused(number)
 }

@@ -47,7 +47,8 @@ pub fn normalize_set_ops_cached(
     cache: &mut [u32; 4096],
 ) -> Interned
     requires { ⌜ Ready normalize Grown (now words) (now starts) c n (now cache) ⌝ }
-    ensures { λ r. ⌜ Does normalize Grown (now (words .entry)) (now (starts .entry)) c n (now (cache .entry)) (now (words .exit)) (now (starts .exit)) (now (cache .exit)) r ⌝ }
+    ensures { λ r. ⌜ Does normalize Grown (now (words .entry)) (now (starts .entry)) c n (now (cache .entry)) (now (words .exit))
+        (now (starts .exit)) (now (cache .exit)) r ⌝ }
 {
     let hit = cached(cache, n);
     if hit != 0 {
@@ -70,7 +71,8 @@ fn normalize_set_ops_uncached(
     cache: &mut [u32; 4096],
 ) -> Interned
     requires { ⌜ Ready normalize Grown (now words) (now starts) c n (now cache) ⌝ }
-    ensures { λ r. ⌜ Does normalize Grown (now (words .entry)) (now (starts .entry)) c n (now (cache .entry)) (now (words .exit)) (now (starts .exit)) (now (cache .exit)) r ⌝ }
+    ensures { λ r. ⌜ Does normalize Grown (now (words .entry)) (now (starts .entry)) c n (now (cache .entry)) (now (words .exit))
+        (now (starts .exit)) (now (cache .exit)) r ⌝ }
 {
     let kind = kind_at(words, starts, c, wide(n));
     if (kind == Head::UNION) | (kind == Head::INTERSECTION) {
@@ -95,7 +97,8 @@ fn flatten_set_op_cached(
     cache: &mut [u32; 4096],
 ) -> Interned
     requires { ⌜ ListReady (now words) (now starts) c n kind (now cache) ⌝ }
-    ensures { λ r. ⌜ Does normalize Grown (now (words .entry)) (now (starts .entry)) c n (now (cache .entry)) (now (words .exit)) (now (starts .exit)) (now (cache .exit)) r ⌝ }
+    ensures { λ r. ⌜ Does normalize Grown (now (words .entry)) (now (starts .entry)) c n (now (cache .entry)) (now (words .exit))
+        (now (starts .exit)) (now (cache .exit)) r ⌝ }
 {
     let total = member_count(words, starts, c, n);
     let mut items = [0u32; 64];
@@ -131,7 +134,8 @@ fn normalize_each(
     cache: &mut [u32; 4096],
 ) -> Run
     requires { ⌜ EachReady normalize Grown (now words) (now starts) c n (now items) count (now cache) ⌝ }
-    ensures { λ r. ⌜ DoesEach normalize Grown (now (words .entry)) (now (starts .entry)) c n (now (items .entry)) count (now (cache .entry)) (now (words .exit)) (now (starts .exit)) (now (items .exit)) (now (cache .exit)) r ⌝ }
+    ensures { λ r. ⌜ DoesEach normalize Grown (now (words .entry)) (now (starts .entry)) c n (now (items .entry)) count (now (cache .entry))
+        (now (words .exit)) (now (starts .exit)) (now (items .exit)) (now (cache .exit)) r ⌝ }
 {
     let mut last = c;
     let mut i = 0;

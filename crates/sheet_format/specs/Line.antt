@@ -24,7 +24,9 @@ limited x = elim (leb (length x) 65536) [ true ↦ ok x | false ↦ refuse 9 ]
 -- what a finished run of `simplify` gives, printed in the arena after, under the sheet's names
 unfoldable pub printed : Sheet → Result → Out Outcome
 unfolding limited type-text _>>=_
-printed sh q = limited (type-text (sh .names) (q .arena) (q .root)) >>= λ (x : List ℕ). ok (record { root = q .root; passes = length (q .taken); text = x })
+printed sh q =
+    limited (type-text (sh .names) (q .arena) (q .root))
+    >>= λ (x : List ℕ). ok (record { root = q .root; passes = length (q .taken); text = x })
 
 -- the type of the sheet's root, simplified in an arena of full size; 7 and 8 come from there
 unfoldable pub sheet-type : Sheet → Out Outcome

@@ -21,7 +21,8 @@ pub record Blank (w s : List ℕ) : Type 0 where
 -- the enum's cases: a sheet, whose table ends before byte `e` and whose arena lies in memory, and which has its root there;
 -- the number of a refusal. What words and starts hold after a refusal is free
 pub data Says (input w s : List ℕ) : Reading → Out Sheet → Type 0 where
-  sheet : {e : ℕ} {c : Counters} {sh : Sheet} → 6 ≤ e → e ≤ length input → IsTable (take (e - 6) (drop 6 input)) (sh .names) → Holds (length (sh .names)) w s c (sh .arena) → sh .root < c .nodes
+  sheet : {e : ℕ} {c : Counters} {sh : Sheet} → 6 ≤ e → e ≤ length input → IsTable (take (e - 6) (drop 6 input)) (sh .names)
+      → Holds (length (sh .names)) w s c (sh .arena) → sh .root < c .nodes
       → Says input w s (reading.Sheet e c (sh .root)) (ok sh)
   refused : {n : ℕ} → Says input w s (reading.Refused n) (refuse n)
 

@@ -44,7 +44,9 @@ pub record Opening : Type 0 where
 -- name count, node count and root, 16 bits each
 unfoldable pub opening : Reader Opening
 unfolding several value-after _>>=_
-opening bs = several 6 bs >>= λ (r : List ℕ × List ℕ). ok (record { names = value (take 2 (r .0)); nodes = value (take 2 (drop 2 (r .0))); root = value (take 2 (drop 4 (r .0))) }, r .1)
+opening bs =
+    several 6 bs >>= λ (r : List ℕ × List ℕ). ok
+    (record { names = value (take 2 (r .0)); nodes = value (take 2 (drop 2 (r .0))); root = value (take 2 (drop 4 (r .0))) }, r .1)
 
 -- ---- the names
 -- the last of the names read so far; before the first the empty text, which comes before every name
@@ -94,7 +96,9 @@ module _ (lent-words lent-starts : ℕ) where
   -- a node put behind the others: 10 for a repeated node, then 7
   unfoldable pub placed : Arena → Node → Out Arena
   unfolding find has-room
-  placed a x = elim (find x a) [ some n ↦ refuse 10 | none ↦ elim (has-room lent-words lent-starts (x ∷ a)) [ false ↦ refuse 7 | true ↦ ok (x ∷ a) ] ]
+  placed a x =
+      elim (find x a)
+      [ some n ↦ refuse 10 | none ↦ elim (has-room lent-words lent-starts (x ∷ a)) [ false ↦ refuse 7 | true ↦ ok (x ∷ a) ] ]
 
 module _ (lent-words lent-starts table : ℕ) where
   -- the node with these words put behind the others; before that its faults 3, 4, 5 over the whole node
@@ -122,7 +126,9 @@ pub record Sheet : Type 0 where
 -- what follows the table with these names: the nodes, in an arena of full size
 unfoldable pub after-names : Opening → List Name × List ℕ → Out (Sheet × List ℕ)
 unfolding nodes _>>=_
-after-names o t = nodes 16384 4096 (o .names) (o .nodes) [] (t .1) >>= λ (a : Arena × List ℕ). ok (record { names = t .0; arena = a .0; root = o .root }, a .1)
+after-names o t =
+    nodes 16384 4096 (o .names) (o .nodes) [] (t .1)
+    >>= λ (a : Arena × List ℕ). ok (record { names = t .0; arena = a .0; root = o .root }, a .1)
 
 -- what follows the opening; a name count over 256 is 1
 unfoldable pub contents : Opening → Reader Sheet

@@ -72,7 +72,8 @@ pub record AddsNode (table : ℕ) (w s : List ℕ) (c : Counters) (ws w′ s′ 
 
 -- an outcome of reading nodes: the place where the bytes go on, and memory holds the arena; what a refusal leaves is free
 pub data Stores (bytes : List ℕ) (table : ℕ) (w s : List ℕ) : Nodes → Out (Arena × List ℕ) → Type 0 where
-  to : {e : ℕ} {d : Counters} {b : Arena} → e ≤ length bytes → Holds table w s d b → Stores bytes table w s (stored.To e d) (ok (b, drop e bytes))
+  to : {e : ℕ} {d : Counters} {b : Arena} → e ≤ length bytes → Holds table w s d b
+      → Stores bytes table w s (stored.To e d) (ok (b, drop e bytes))
   stop : {e : ℕ} → Stores bytes table w s (stored.Refused e) (refuse e)
 
 -- the place lies in the bytes, and memory holds some arena

@@ -3,6 +3,7 @@ use Prim.Native.Nat.{ℕ}
 use mathlib.Core.List.{List, [], _∷_, _++_}
 use Rattle.types.specs.Out.{Out, ok, refuse}
 use Rattle.types.specs.Node.{positive, primitive, members, var, form, node}
+use Rattle.types.specs.Arena.{Arena}
 use Rattle.sheet_reading.specs.Sheet.{Sheet}
 
 pub record Case : Type 0 where
@@ -30,10 +31,14 @@ fields = 96 ∷ 0 ∷ 0 ∷ 2 ∷ 0 ∷ 0 ∷ 0 ∷ 0 ∷ 0 ∷ 0 ∷ 0 ∷ 0 �
 abbrev pub example : List ℕ
 example = opens 0 3 2 ++ variable ++ primitive-of 2 ++ union-of 0 1
 
+-- its arena
+abbrev pub example-arena : Arena
+example-arena = node (members positive) (0 ∷ 1 ∷ []) ∷ node (form (primitive 2)) [] ∷ node (var 0) [] ∷ []
+
 -- (01, "A sheet and its line" and "Who can cause which number"): the example, then for each number a sheet that is refused by it
 abbrev pub worked : List Case
 worked =
-    record { bytes = example; says = ok (record { names = []; arena = node (members positive) (0 ∷ 1 ∷ []) ∷ node (form (primitive 2)) [] ∷ node (var 0) [] ∷ []; root = 2 }) }
+    record { bytes = example; says = ok (record { names = []; arena = example-arena; root = 2 }) }
     ∷ record { bytes = opens 1 0 0 ++ (65 ∷ []); says = refuse 1 }
     ∷ record { bytes = 1 ∷ 1 ∷ 0 ∷ 0 ∷ 0 ∷ 0 ∷ []; says = refuse 1 }
     ∷ record { bytes = opens 2 0 0 ++ (1 ∷ 97 ∷ 1 ∷ 97 ∷ []); says = refuse 1 }

@@ -64,7 +64,8 @@ fn add_node(
     node: &[u32],
 ) -> Interned
     requires { ⌜ Under names (now words) (now starts) c ⌝ }
-    ensures { λ r. ⌜ AddsNode names (now (words .entry)) (now (starts .entry)) c (now (node .entry)) (now (words .exit)) (now (starts .exit)) r ⌝ }
+    ensures { λ r. ⌜ AddsNode names (now (words .entry)) (now (starts .entry)) c (now (node .entry)) (now (words .exit))
+        (now (starts .exit)) r ⌝ }
 {
     let number = fault(node, c.nodes, names);
     if number != 0 {
@@ -90,7 +91,8 @@ fn read_node(
     names: usize,
 ) -> Nodes
     requires { ⌜ Ready (now bytes) at names (now words) (now starts) c ⌝ }
-    ensures { λ r. ⌜ StoresNode (now (bytes .entry)) at names (now (words .entry)) (now (starts .entry)) c (now (words .exit)) (now (starts .exit)) r ⌝ }
+    ensures { λ r. ⌜ StoresNode (now (bytes .entry)) at names (now (words .entry)) (now (starts .entry)) c (now (words .exit))
+        (now (starts .exit)) r ⌝ }
 {
     let place = node_end(bytes, at);
     match place {
@@ -117,7 +119,8 @@ pub(crate) fn read_nodes(
     count: usize,
 ) -> Nodes
     requires { ⌜ ReadyEmpty (now bytes) first names (now words) (now starts) ⌝ }
-    ensures { λ r. ⌜ StoresNodes (now (bytes .entry)) first names count (now (words .entry)) (now (starts .entry)) (now (words .exit)) (now (starts .exit)) r ⌝ }
+    ensures { λ r. ⌜ StoresNodes (now (bytes .entry)) first names count (now (words .entry)) (now (starts .entry)) (now (words .exit))
+        (now (starts .exit)) r ⌝ }
 {
     let mut at = first;
     let mut c = Counters { nodes: 0, words: 0 };

@@ -51,7 +51,8 @@ unfoldable pub is-decided : Polarity → Arena → List ℕ → Bool
 unfolding one-of same-tag at
 is-decided k a = one-of (λ (m : ℕ). same-tag (tag (at a m)) (bound (opposite k)))
 
--- what a simplified member m, the node x, brings to a list of kind k: a list of that kind its own members, the neutral element nothing, any other itself
+-- what a simplified member m, the node x, brings to a list of kind k: a list of that kind its own members, the neutral element nothing, any
+-- other itself
 unfoldable pub splice : Polarity → ℕ → Node → List ℕ
 unfolding same-tag
 splice k m x = elim (same-tag (tag x) (members k)) [

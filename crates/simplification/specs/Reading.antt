@@ -40,7 +40,8 @@ same-sets k (x ∷ xs) (y ∷ ys) = same-marks k k (omega arith) x y && same-set
 unfoldable pub look-up : (k : ℕ) → List (Entry k) → Form → List (Set k) → Set k
 unfolding same form-dec same-sets
 look-up k [] f ss m = false
-look-up k (e ∷ es) f ss m = elim (same form-dec (e .own) f && same-sets k (e .children) ss) [ true ↦ e .value m | false ↦ look-up k es f ss m ]
+look-up k (e ∷ es) f ss m =
+    elim (same form-dec (e .own) f && same-sets k (e .children) ss) [ true ↦ e .value m | false ↦ look-up k es f ss m ]
 
 -- is a mark in the set of `never`, or of `any`?
 abbrev pub in-bound : Polarity → Bool

@@ -1,16 +1,15 @@
 -- The call open to a host: its refusals, what it takes back, and the demand.
-use Prim.Native.Nat.{ℕ, _+_, _-_, _<_, _≤_}
+use Prim.Native.Nat.{ℕ, _<_, _≤_}
 use mathlib.Core.Path.{_≡_, refl, sym, ap, _∙_, subst}
-use mathlib.Core.List.{List, _++_}
+use mathlib.Core.List.{List}
 use native.Mathlib.Omega.{arith}
-use lib.ListN.{length, take, replicate}
+use lib.ListN.{length}
 use Rattle.types.specs.Out.{Out, ok, refuse, _>>=_}
 use Rattle.types.specs.Arena.{Arena}
-use Rattle.types.specs.Memory.{flat, heads, words-of, starts-of, counters-of, Holds}
+use Rattle.types.specs.Memory.{Holds}
 use Rattle.types.specs.Reply.{reply-of, rooted}
 use Rattle.types.specs.declared.Counters.{Counters}
 use Rattle.types.proofs.Memories.{unique}
-use Rattle.types.proofs.Addresses.{length-heads}
 use Rattle.types.proofs.Replies.{rooted-no, rooted-yes}
 use Rattle.names.specs.Table.{Name}
 use Rattle.node_store.specs.Stored.{Lent}
@@ -20,7 +19,9 @@ use Rattle.soundness.specs.declared.Judged.the-variants as verdict
 use Rattle.soundness.proofs.Verdicts.{lent-names, lent-refused, lent-done}
 use Rattle.simplification.specs.Passes.{Result, simplify}
 use Rattle.simplification.proofs.Demands.{demand-3}
-use Rattle.recursion.specs.Work.{Stands, TakesBack}
+use Rattle.recursion.specs.Work.{TakesBackNodes}
+use Rattle.recursion.proofs.Leading.{Stopped}
+use Rattle.recursion.proofs.Hosts.{held-reply, back-reply}
 use Rattle.simplify.specs.Simplify.{Answer, answered, simplify-reply, left, Fulfilled, Promise, LeadsTo, done, stop, Simplifies, SimplifiesLent}
 use Rattle.simplify.specs.declared.Simplified.{Simplified}
 use Rattle.simplify.specs.declared.Simplified.the-variants as simplified
@@ -33,10 +34,6 @@ pub record Finished (table : ℕ) (a : Arena) (w s : List ℕ) (n k : ℕ) (d : 
   pub count : k ≡ length (result .taken)
   pub holds : Holds table w s d (result .arena)
   pub low : n < length (result .arena)
-
-pub record Stopped (a : Arena) (w s : List ℕ) (e : ℕ) (o : Out Result) : Type 0 where
-  pub is : o ≡ refuse e
-  pub stands : Stands w s a
 
 module _ {table : ℕ} {a : Arena} {w s : List ℕ} where
   pub finished : {r : Simplified} {o : Out Result} {n k : ℕ} {d : Counters} → LeadsTo table a 0 w s r o → r ≡ simplified.Type n k d → Finished table a w s n k d o
@@ -75,25 +72,18 @@ module _ {w s : List ℕ} {c : Counters} {root x : ℕ} (e : x ≡ root) (h : x 
 
   module _ {w′ s′ : List ℕ} {r : Simplified} (S : Simplifies w s c root w′ s′ r) where
     module _ {n k : ℕ} {d : Counters} (q : r ≡ simplified.Type n k d) where
-      pub run-done : Lent w s c → length w′ ≡ length w → length s′ ≡ length s → SimplifiesLent w s c root w′ s′ (simplified.Type n k d)
-      unfolding reply-of answered _>>=_
+      pub run-done : Lent w s c → length w′ ≡ length w → length s′ ≡ length s → SimplifiesLent w s c root w′ s′ r
+      unfolding answered _>>=_
       run-done L lw ls = record {
         is = λ table a H.
             let F = finished (S .is table a H) q in
-            let o = run-is H ∙ ap answered (F .is) in
-            let G = F .holds in
-            reply-so (F .result) (F .root) (F .count) (counters-so G) (G .words ∙ ap (λ (i : ℕ). words-of i (F .result .arena)) lw) (G .starts ∙ ap (λ (i : ℕ). starts-of i (F .result .arena)) ls)
-            ∙ sym (ap (reply-of w s c) o);
-        fulfilled = λ m j b p. same-type m j b p;
+            ap (λ (z : Simplified). left c z w′ s′) q
+            ∙ (λ i. left c (simplified.Type (F .root i) (F .count i) d) w′ s′)
+            ∙ held-reply w s c lw ls (F .holds) (record { root = F .result .root; made = length (F .result .taken) })
+            ∙ sym (ap (reply-of w s c) (run-is H ∙ ap answered (F .is)));
+        fulfilled = λ m j b p. same-type m j b (sym q ∙ p);
       }
         where
-          counters-so : {table : ℕ} {b : Arena} → Holds table w′ s′ d b → d ≡ counters-of b
-          counters-so G = λ i. record { nodes = G .nodes i; words = G .total i }
-
-          reply-so : (q : Result) → n ≡ q .root → k ≡ length (q .taken) → d ≡ counters-of (q .arena) → w′ ≡ words-of (length w) (q .arena) → s′ ≡ starts-of (length s) (q .arena)
-              → left c (simplified.Type n k d) w′ s′ ≡ reply-of w s c (answered (ok q))
-          reply-so q a b f g i = λ z. left c (simplified.Type (a z) (b z) (f z)) (g z) (i z)
-
           same-type : (m j : ℕ) (b : Counters) → simplified.Type n k d ≡ simplified.Type m j b → Fulfilled w s c root m b w′ s′
           same-type m j b p =
               let x : n ≡ m = cc in
@@ -111,16 +101,12 @@ module _ {w s : List ℕ} {c : Counters} {root x : ℕ} (e : x ≡ root) (h : x 
                 demand = demand-3 (length w) (length s) (L .table) (H .few-starts) root (L .view) (H .good) (inside H) (F .result) (F .is);
               }
 
-    pub run-stopped : {u : ℕ} → r ≡ simplified.Refused u → Lent w s c → {w″ s″ : List ℕ} → TakesBack w′ (c .words) w″ → TakesBack s′ (c .nodes) s″ → length w′ ≡ length w → length s′ ≡ length s → SimplifiesLent w s c root w″ s″ (simplified.Refused u)
-    unfolding reply-of answered _>>=_
-    run-stopped {u} q L {w″} {s″} B D lw ls = record {
+    pub run-stopped : {u : ℕ} → r ≡ simplified.Refused u → {w″ s″ : List ℕ} → TakesBackNodes w′ s′ c w″ s″ → length w′ ≡ length w → length s′ ≡ length s → SimplifiesLent w s c root w″ s″ (simplified.Refused u)
+    unfolding answered _>>=_
+    run-stopped {u} q {w″} {s″} B lw ls = record {
       is = λ table a H.
           let T = stopped (S .is table a H) q in
-          let o = run-is H ∙ ap answered (T .is) in
-          let ww : w″ ≡ w = B .is ∙ (λ i. take (H .total i) w′ ++ replicate (lw i - H .total i) 0) ∙ ap (λ (l : List ℕ). l ++ replicate (length w - length (flat a)) 0) (T .stands .words) ∙ sym (H .words) in
-          let hs : length (heads a) ≡ length a = length-heads a in
-          let ss : s″ ≡ s = D .is ∙ (λ i. take (H .nodes i) s′ ++ replicate (ls i - H .nodes i) 0) ∙ ap (λ (l : List ℕ). l ++ replicate (length s - length a) 0) (T .stands .starts) ∙ ap (λ (k : ℕ). heads a ++ replicate (length s - k) 0) (sym hs) ∙ sym (H .starts) in
-          (λ i. left c (simplified.Refused u) (ww i) (ss i)) ∙ sym (ap (reply-of w s c) o);
+          back-reply w s c lw ls H (T .stands) B u ∙ sym (ap (reply-of w s c) (run-is H ∙ ap answered (T .is)));
       fulfilled = no-type;
     }
 

@@ -29,14 +29,17 @@ answered o = o >>= λ q. ok (record { root = q .root; made = length (q .taken) }
 -- after 1, 2 and 6, what the passes give; 7 and 8 come from them
 unfoldable pub simplify-reply : List ℕ → List ℕ → List ℕ → Counters → ℕ → Reply Answer
 unfolding reply-of tabled names-of judged rooted answered simplify
-simplify-reply t w s c root = reply-of w s c (tabled (names-of t) (λ (ns : List Name). judged (length ns) w s c (rooted root (λ (a : Arena). answered (simplify (length w) (length s) root a)))))
+simplify-reply t w s c root =
+    reply-of w s c (tabled (names-of t)
+    (λ (ns : List Name). judged (length ns) w s c (rooted root (λ (a : Arena). answered (simplify (length w) (length s) root a)))))
 
 -- the enum's cases: the root, the passes and the counters after; the number of a refusal, which leaves the counters as they were
 abbrev pub left : Counters → Simplified → List ℕ → List ℕ → Reply Answer
 left c (simplified.Type n k d) w s = reply (ok (record { root = n; made = k })) d w s
 left c (simplified.Refused e) w s = reply (refuse e) c w s
 
--- what a finished call has done: memory held the arena `given` and holds that of the result, and demand 3 holds from the given root to the returned one
+-- what a finished call has done: memory held the arena `given` and holds that of the result, and demand 3 holds from the given root to the
+-- returned one
 pub record Fulfilled (w s : List ℕ) (c : Counters) (root n : ℕ) (d : Counters) (w′ s′ : List ℕ) : Type 0 where
   pub table : ℕ
   pub given : Arena
@@ -55,7 +58,8 @@ pub record Promise (t w s : List ℕ) (c : Counters) (root : ℕ) (w′ s′ : L
 -- ---- the inner functions
 -- an outcome of the passes, from memory that held a, with so many passes before
 pub data LeadsTo (table : ℕ) (a : Arena) (made : ℕ) (w s : List ℕ) : Simplified → Out Result → Type 0 where
-  done : {q : Result} {k : ℕ} {d : Counters} → Holds table w s d (q .arena) → Ext a (q .arena) → q .root < length (q .arena) → k ≡ made + length (q .taken) → LeadsTo table a made w s (simplified.Type (q .root) k d) (ok q)
+  done : {q : Result} {k : ℕ} {d : Counters} → Holds table w s d (q .arena) → Ext a (q .arena) → q .root < length (q .arena)
+      → k ≡ made + length (q .taken) → LeadsTo table a made w s (simplified.Type (q .root) k d) (ok q)
   stop : {e : ℕ} → Stands w s a → LeadsTo table a made w s (simplified.Refused e) (refuse e)
 
 -- the root is there, and the passes can be counted
@@ -71,5 +75,6 @@ pub record Simplifies (w s : List ℕ) (c : Counters) (root : ℕ) (w′ s′ : 
 
 -- the reply in a sound arena, and the promise where it is finished
 pub record SimplifiesLent (w s : List ℕ) (c : Counters) (root : ℕ) (w′ s′ : List ℕ) (r : Simplified) : Type 0 where
-  pub is : (table : ℕ) (a : Arena) → Holds table w s c a → left c r w′ s′ ≡ reply-of w s c (rooted root (λ (b : Arena). answered (simplify (length w) (length s) root b)) a)
+  pub is : (table : ℕ) (a : Arena) → Holds table w s c a
+      → left c r w′ s′ ≡ reply-of w s c (rooted root (λ (b : Arena). answered (simplify (length w) (length s) root b)) a)
   pub fulfilled : (n k : ℕ) (d : Counters) → r ≡ simplified.Type n k d → Fulfilled w s c root n d w′ s′

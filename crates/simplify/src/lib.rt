@@ -1,7 +1,7 @@
 // `simplify`: one pass, then more until one changes nothing.
 use node_store::added::Interned;
 use pass::once::simplify_once;
-use recursion::take_back;
+use recursion::take_back_nodes;
 use soundness::Judged;
 use soundness::judge;
 use types::Counters;
@@ -75,14 +75,11 @@ fn simplify_lent(words: &mut [u32], starts: &mut [u32], c: Counters, root: u32) 
         return Simplified::Refused(6);
     }
     let r = simplify_in(words, starts, c, root);
-    match r {
-        Simplified::Type(n, made, d) => Simplified::Type(n, made, d),
-        Simplified::Refused(number) => {
-            take_back(words, c.words);
-            take_back(starts, c.nodes);
-            Simplified::Refused(number)
-        }
-    }
+    let Simplified::Refused(number) = r else {
+        return r;
+    };
+    take_back_nodes(words, starts, c);
+    Simplified::Refused(number)
 }
 
 // What the type of the root becomes.
@@ -93,11 +90,12 @@ pub fn simplify(
     c: Counters,
     root: u32,
 ) -> Simplified
-    ensures { λ r. ⌜ Promise (now (table .entry)) (now (words .entry)) (now (starts .entry)) c root (now (words .exit)) (now (starts .exit)) r ⌝ }
+    ensures { λ r. ⌜ Promise (now (table .entry)) (now (words .entry)) (now (starts .entry)) c root
+        (now (words .exit)) (now (starts .exit)) r ⌝ }
 {
     let lent = judge(table, words, starts, c);
-    match lent {
-        Judged::Names(count) => simplify_lent(words, starts, c, root),
-        Judged::Refused(number) => Simplified::Refused(number),
-    }
+    let Judged::Refused(number) = lent else {
+        return simplify_lent(words, starts, c, root);
+    };
+    Simplified::Refused(number)
 }

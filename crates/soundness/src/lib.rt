@@ -1,4 +1,4 @@
-// Whether lent memory holds an arena: `judge` is the first step of every call open to a host.
+// Whether lent memory holds an arena: `judge` is the first step of every call that is lent one.
 use bits::put_row;
 use bits::test_row;
 use names::Table;

@@ -1,4 +1,5 @@
--- The text of a type, as the Rust's `write_ty` writes it (document 001): what begins a node's text, what stands before each child, which children stand in parentheses, what ends it.
+-- The text of a type, as the Rust's `write_ty` writes it (document 001): what begins a node's text, what stands before each child, which
+-- children stand in parentheses, what ends it.
 use Prim.Native.Nat.{ℕ, zero, suc}
 use mathlib.Core.Bool.{Bool, true, false}
 use mathlib.Core.List.{List, [], _∷_, _++_}
@@ -8,7 +9,8 @@ use Rattle.types.specs.Tyvar.{tyvar-name}
 use Rattle.primitive.specs.Primitive.{primitive-text}
 use Rattle.types.specs.Parens.{parens-in-union-member, parens-in-intersection-member, parens-in-lambda-param, parens-in-neg}
 use Rattle.types.specs.Kind.{disc}
-use Rattle.types.specs.Node.{positive, negative, Field, field, primitive, list, lambda, attrset, named, Tag, members, bound, var, neg, form, kind}
+use Rattle.types.specs.Node.{positive, negative, Field, field, primitive, list, lambda, attrset, named, Tag, members, bound, var, neg, form}
+use Rattle.types.specs.Node.{kind}
 use Rattle.types.specs.Arena.{Arena, fold}
 use Rattle.names.specs.Table.{Name}
 

@@ -38,7 +38,8 @@ pub fn open_child(
     count: usize,
 ) -> usize
     requires { ⌜ ChildOf (now words) (now starts) c n i ⌝ }
-    ensures { λ r. ⌜ Opens (now (table .entry)) (now (words .entry)) (now (starts .entry)) c n i (now (text .entry)) count (now (text .exit)) r ⌝ }
+    ensures { λ r. ⌜ Opens (now (table .entry)) (now (words .entry)) (now (starts .entry)) c n i (now (text .entry)) count
+        (now (text .exit)) r ⌝ }
 {
     let inside = enclosed(words, starts, c, n, i);
     let node = node_at(words, starts, c, wide(n));

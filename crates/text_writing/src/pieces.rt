@@ -23,7 +23,8 @@ ghost use Rattle.types.specs.Short.{text as bytes-of};
 ghost use Rattle.types.specs.Node.{tag, guess};
 ghost use Rattle.types.specs.Fault.{children-in};
 ghost use Rattle.names.specs.Table.{split, name-text};
-ghost use Rattle.text_writing.specs.Text.{between, beginning, separator, field-text, label, parens, before, set-ending, ending, shown};
+ghost use Rattle.text_writing.specs.Text.{between, beginning, separator, field-text, label, parens, before, set-ending, ending};
+ghost use Rattle.text_writing.specs.Text.{shown};
 ghost use Rattle.text_writing.specs.Writes.{Writes, IsFormed};
 
 // Word i of a node, 0 past the last.
@@ -56,7 +57,8 @@ fn write_name(table: &[u8], text: &mut [u8], count: usize, word: u32) -> usize
 // What begins a node's text.
 pub fn write_beginning(table: &[u8], node: &[u32], text: &mut [u8], count: usize) -> usize
     requires { ⌜ IsFormed (now node) ⌝ }
-    ensures { λ r. ⌜ Writes (now (text .entry)) count (beginning (split (now (table .entry))) (tag (guess (now (node .entry))))) (now (text .exit)) r ⌝ }
+    ensures { λ r. ⌜ Writes (now (text .entry)) count (beginning (split (now (table .entry))) (tag (guess (now (node .entry)))))
+        (now (text .exit)) r ⌝ }
 {
     let kind = kind_in(node);
     if kind == Head::BOTTOM {
@@ -131,7 +133,8 @@ fn field_count(node: &[u32]) -> usize
 
 // The name in a field word, with what stands between it and the field's type.
 fn write_field(table: &[u8], word: u32, text: &mut [u8], count: usize) -> usize
-    ensures { λ r. ⌜ Writes (now (text .entry)) count (field-text (split (now (table .entry))) (field-optional word) (field-name word)) (now (text .exit)) r ⌝ }
+    ensures { λ r. ⌜ Writes (now (text .entry)) count (field-text (split (now (table .entry))) (field-optional word) (field-name word))
+        (now (text .exit)) r ⌝ }
 {
     let named = write_name(table, text, count, word);
     let marked = append_if(text, named, field_optional(word), b"?");
@@ -141,7 +144,8 @@ fn write_field(table: &[u8], word: u32, text: &mut [u8], count: usize) -> usize
 // What names child i.
 fn write_label(table: &[u8], node: &[u32], i: usize, text: &mut [u8], count: usize) -> usize
     requires { ⌜ IsFormed (now node) ⌝ }
-    ensures { λ r. ⌜ Writes (now (text .entry)) count (label (split (now (table .entry))) (tag (guess (now (node .entry)))) i) (now (text .exit)) r ⌝ }
+    ensures { λ r. ⌜ Writes (now (text .entry)) count (label (split (now (table .entry))) (tag (guess (now (node .entry)))) i)
+        (now (text .exit)) r ⌝ }
 {
     if kind_in(node) == Head::ATTR_SET {
         if i < field_count(node) {
@@ -186,7 +190,8 @@ pub fn write_before(
     count: usize,
 ) -> usize
     requires { ⌜ IsFormed (now node) ⌝ }
-    ensures { λ r. ⌜ Writes (now (text .entry)) count (before (split (now (table .entry))) (tag (guess (now (node .entry)))) i inside) (now (text .exit)) r ⌝ }
+    ensures { λ r. ⌜ Writes (now (text .entry)) count (before (split (now (table .entry))) (tag (guess (now (node .entry)))) i inside)
+        (now (text .exit)) r ⌝ }
 {
     let separated = write_separator(node, i, text, count);
     let labelled = write_label(table, node, i, text, separated);
@@ -195,7 +200,8 @@ pub fn write_before(
 
 // What ends the text of a set.
 fn write_set_ending(node: &[u32], text: &mut [u8], count: usize) -> usize
-    ensures { λ r. ⌜ Writes (now (text .entry)) count (set-ending (head-open (getD (now (node .entry)) 0 0)) (length (children-in (now (node .entry))))) (now (text .exit)) r ⌝ }
+    ensures { λ r. ⌜ Writes (now (text .entry)) count
+        (set-ending (head-open (getD (now (node .entry)) 0 0)) (length (children-in (now (node .entry))))) (now (text .exit)) r ⌝ }
 {
     let head = Head {
         word: word_at(node, 0),
@@ -210,7 +216,8 @@ fn write_set_ending(node: &[u32], text: &mut [u8], count: usize) -> usize
 // What ends a node's text.
 pub fn write_ending(node: &[u32], text: &mut [u8], count: usize) -> usize
     requires { ⌜ IsFormed (now node) ⌝ }
-    ensures { λ r. ⌜ Writes (now (text .entry)) count (ending (tag (guess (now (node .entry)))) (length (children-in (now (node .entry))))) (now (text .exit)) r ⌝ }
+    ensures { λ r. ⌜ Writes (now (text .entry)) count (ending (tag (guess (now (node .entry)))) (length (children-in (now (node .entry)))))
+        (now (text .exit)) r ⌝ }
 {
     let kind = kind_in(node);
     if kind == Head::LIST {

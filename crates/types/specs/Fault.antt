@@ -1,11 +1,13 @@
--- Numbers 3, 4 and 5 read off the fields of the words, sentence by sentence: what a program tests. That they are `decode`'s is the theorem `fault-decode`.
+-- Numbers 3, 4 and 5 read off the fields of the words, sentence by sentence: what a program tests. That they are `decode`'s, for words of
+-- 32 bits, is the theorem `fault-decode`.
 use Prim.Native.Nat.{ℕ, _-_}
 use mathlib.Core.Bool.{Bool, true, false, not, _&&_}
 use mathlib.Core.List.{List, [], _∷_, map}
 use mathlib.Core.Option.{Option, none, some}
 use lib.ListN.{length, getD, take, drop}
 use lib.Dec.{eqb, ltb}
-use Rattle.words.specs.Words.{bit, head-kind, head-open, head-dynamic, head-zero, head-count, field-optional, field-name, field-zero, child-zero}
+use Rattle.words.specs.Words.{bit, head-kind, head-open, head-dynamic, head-zero, head-count, field-optional, field-name, field-zero}
+use Rattle.words.specs.Words.{child-zero}
 use Rattle.types.specs.Kind.{Kind, kind-of, body-count, Body, empty, code, number, children, fields, name, body-of}
 use Rattle.types.specs.Node.{below, rising, children-of}
 
@@ -23,7 +25,8 @@ abbrev pub kind-fits : Option Kind → Bool → Bool → ℕ → Bool
 kind-fits none o d n = false
 kind-fits (some k) o d n = flags-fit (body-of k) o d && body-count k d n
 
--- a head's own faults: its zero field, a kind above 10, a flag or a count that doesn't fit the kind (01, "Who can cause which number" and "A sheet and its line")
+-- a head's own faults: its zero field, a kind above 10, a flag or a count that doesn't fit the kind (01, "Who can cause which number" and
+-- "A sheet and its line")
 unfoldable pub head-fits : ℕ → Bool
 unfolding head-zero head-kind head-open head-dynamic head-count kind-of body-count
 head-fits h = eqb (head-zero h) 0 && kind-fits (kind-of (head-kind h)) (head-open h) (head-dynamic h) (head-count h)

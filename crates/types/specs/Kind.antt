@@ -57,7 +57,8 @@ body-count intersection d n = leb 1 n && leb n 64
 body-count named d n = eqb n 1
 body-count neg d n = eqb n 1
 
--- what the body words of a kind are: none; a primitive's code; a variable's number; children; fields and perhaps one child; one field that is a name
+-- what the body words of a kind are: none; a primitive's code; a variable's number; children; fields and perhaps one child; one field that
+-- is a name
 pub data Body : Type 0 where
   empty : Body
   code : Body

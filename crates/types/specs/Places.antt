@@ -1,8 +1,9 @@
--- Places and their signs (01, "Places and passes"; the paper on the polarity of an occurrence).
+-- Places and their signs (01, "Places and passes"; docs/PAPER.md, "Polarity of an occurrence").
 use Prim.Native.Nat.{ℕ, zero, suc, _<_}
 use mathlib.Core.Path.{_≡_}
 use lib.ListN.{length, getD}
-use Rattle.types.specs.Node.{Polarity, positive, negative, primitive, list, lambda, attrset, named, Tag, members, bound, var, neg, form, tag, children}
+use Rattle.types.specs.Node.{Polarity, positive, negative, primitive, list, lambda, attrset, named, Tag, members, bound, var, neg}
+use Rattle.types.specs.Node.{form, tag, children}
 use Rattle.types.specs.Arena.{Arena, at}
 
 -- the other side
@@ -27,10 +28,12 @@ child-sign (form lambda) i s = lambda-sign i s
 child-sign (form (attrset fs d o)) i s = s
 child-sign (form (named n)) i s = s
 
--- "place" is 01's term: a path of children from the node n, at the sign s, to the node u, where the sign is p. A shared node has a place for each path
+-- "place" is 01's term: a path of children from the node n, at the sign s, to the node u, where the sign is p. A shared node has a place
+-- for each path
 pub data Place (a : Arena) : ℕ → Polarity → ℕ → Polarity → Type 0 where
   self : {n : ℕ} {s : Polarity} → Place a n s n s
-  down : {n u : ℕ} {s p : Polarity} (i : ℕ) → i < length (children (at a n)) → Place a (getD (children (at a n)) i 0) (child-sign (tag (at a n)) i s) u p → Place a n s u p
+  down : {n u : ℕ} {s p : Polarity} (i : ℕ) → i < length (children (at a n))
+      → Place a (getD (children (at a n)) i 0) (child-sign (tag (at a n)) i s) u p → Place a n s u p
 
 -- u has a place in the type of the root; the root is positive
 pub record Reachable (a : Arena) (root u : ℕ) : Type 0 where

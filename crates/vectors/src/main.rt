@@ -1,77 +1,75 @@
-// Answers cases from standard input, one line each, until the input ends: what the library says, to be held against what the
-// Rust says of the same cases. A case is a byte that names the call, and its arguments.
+// Answers cases of the calls that change memory, and of sheets, from standard input, one line each, until the input ends: what the
+// library says, to be held against what the Rust says of the same cases. A case is a byte that names the call, and its arguments.
 mod answers;
-mod input;
-mod lent_text;
-mod output;
-mod pairs;
-mod texts;
+mod copies;
+mod sheets;
 
-use answers::Step;
-use input::Input;
-use input::add;
-use input::refill;
-use output::flush;
+use answer_writing::lines::Step;
+use answer_writing::output::Output;
+use answer_writing::output::flush;
+use answers::change;
+use case_reading::host::Words;
+use case_reading::input::Buffer;
+use case_reading::input::past;
+use case_reading::input::refill;
+use case_reading::input::start;
+use case_reading::input::unused;
+use case_reading::numbers::MOST;
+use case_reading::numbers::byte;
+
+// The answer to the case at the front if it changes one arena.
+fn one_arena(
+    op: usize,
+    s: &[u8],
+    words: &mut Words,
+    starts: &mut Words,
+    given: &mut Words,
+    out: &mut Output,
+    held: usize,
+) -> Step {
+    match op {
+        2 | 4 | 10 | 12 | 17 => change(op, s, words, starts, given, out, held),
+        _ => Step::Cut,
+    }
+}
 
 // The answer to the case at the front.
 fn answer(
     s: &[u8],
-    words: &mut [u32],
-    starts: &mut [u32],
-    node: &mut [u32],
-    more: &mut [u32],
-    text: &mut [u8],
-    out: &mut [u8],
+    words: &mut Words,
+    starts: &mut Words,
+    more_words: &mut Words,
+    more_starts: &mut Words,
+    out: &mut Output,
     held: usize,
 ) -> Step {
-    if s.len() == 0 {
-        return Step::Cut;
-    }
-    match s[0] {
-        1 => answers::tyvar(s, out, held),
-        2 => answers::intern(s, words, starts, node, out, held),
-        3 => answers::compare(s, words, starts, out, held),
-        5 => texts::display_type(s, words, starts, text, out, held),
-        6 => answers::table(s, out, held),
-        7 => answers::name_order(s, out, held),
-        8 => texts::sheet(s, out, held),
-        18 => pairs::compaction(s, words, starts, node, more, out, held),
-        19 => pairs::equality(s, words, starts, node, more, out, held),
-        4 | 9 | 10 | 11 | 12 | 13 | 14 | 15 | 16 | 17 | 20 => {
-            answers::on_type(s, words, starts, out, held)
-        }
-        _ => Step::Cut,
+    match byte(s, 0) {
+        8 => sheets::sheet(s, out, held),
+        18 => copies::compaction(s, words, starts, more_words, more_starts, out, held),
+        op => one_arena(op, s, words, starts, more_words, out, held),
     }
 }
 
 // Case after case. Nothing says that input ends, so the cases are counted down.
 fn answer_all(
-    buf: &mut [u8],
-    words: &mut [u32],
-    starts: &mut [u32],
-    node: &mut [u32],
-    more: &mut [u32],
-    text: &mut [u8],
-    out: &mut [u8],
+    buf: &mut Buffer,
+    words: &mut Words,
+    starts: &mut Words,
+    more_words: &mut Words,
+    more_starts: &mut Words,
+    out: &mut Output,
 ) {
-    let mut input = Input {
-        at: 0,
-        end: 0,
-        ended: false,
-    };
+    let mut input = start();
     let mut held: usize = 0;
-    let mut left = input::MOST;
+    let mut left = MOST;
     while left > 0 {
         input = refill(buf, input);
-        let at = input.at;
-        let end = input.end;
         let step = answer(
-            input::part(buf, at, end),
+            unused(buf, input),
             words,
             starts,
-            node,
-            more,
-            text,
+            more_words,
+            more_starts,
             out,
             held,
         );
@@ -83,40 +81,26 @@ fn answer_all(
             flush(out, held);
             return;
         };
-        input.at = add(at, used);
+        input = past(input, used);
         held = now_held;
         left -= 1;
     }
 }
 
-// The buffer's type says its length, which is too long to be counted out in a proof.
-fn answer_from(
-    buf: &mut [u8; 1572864],
-    words: &mut [u32],
-    starts: &mut [u32],
-    node: &mut [u32],
-    more: &mut [u32],
-    text: &mut [u8],
-    out: &mut [u8],
-) {
-    answer_all(buf, words, starts, node, more, text, out);
-}
-
+// The memory that every case uses in turn.
 fn main() {
     let mut buf = [0u8; 1572864];
     let mut words = [0u32; 65535];
     let mut starts = [0u32; 65535];
-    let mut node = [0u32; 65535];
-    let mut more = [0u32; 65535];
-    let mut text = [0u8; 70000];
+    let mut more_words = [0u32; 65535];
+    let mut more_starts = [0u32; 65535];
     let mut out = [0u8; 65536];
-    answer_from(
+    answer_all(
         &mut buf,
         &mut words,
         &mut starts,
-        &mut node,
-        &mut more,
-        &mut text,
+        &mut more_words,
+        &mut more_starts,
         &mut out,
     );
 }

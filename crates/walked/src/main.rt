@@ -1,4 +1,5 @@
-// `simplify`, `display` and every question, on types that are deep or have a node at very many places, and on document 01's pair of sets. It prints
+// `simplify`, `display` and every question, on types that are deep or have a node at very many places, and on document 01's pair of sets.
+// It prints
 // a line a call. What it must print was made by the Rust (compare/reference/src/bin/walked.rs).
 mod lines;
 

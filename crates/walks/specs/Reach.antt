@@ -22,7 +22,9 @@ some-of (b ∷ bs) = b || some-of bs
 -- does a path of children lead from node n to node u? The theorem `reaches-place` says that this is `Reachable`
 unfoldable pub reaches : Arena → ℕ → ℕ → Bool
 unfolding rec some-of
-reaches = rec (λ (s : Arena) (x : Node) (f : ℕ → ℕ → Bool) (u : ℕ). eqb u (length s) || some-of (map (λ (c : ℕ). f c u) (children x))) (λ u. false)
+reaches =
+    rec (λ (s : Arena) (x : Node) (f : ℕ → ℕ → Bool) (u : ℕ). eqb u (length s) || some-of (map (λ (c : ℕ). f c u) (children x)))
+    (λ u. false)
 
 -- how many nodes are reachable
 unfoldable pub reach-count : Arena → ℕ → ℕ

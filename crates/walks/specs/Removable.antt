@@ -1,4 +1,5 @@
--- Which variables a pass may drop from a member list: those that it sees with one sign (01, "simplify" and "Places and passes"; the paper on variables of one polarity).
+-- Which variables a pass may drop from a member list: those that it sees with one sign (01, "simplify" and "Places and passes"; the paper
+-- on variables of one polarity).
 use Prim.Native.Nat.{ℕ}
 use mathlib.Core.Path.{_≡_}
 use mathlib.Core.Bool.{true}
@@ -20,7 +21,8 @@ pub record Removable (a : Arena) (root v : ℕ) : Type 0 where
   pub seen : Seen a root v sign
   pub unseen : Seen a root v (opposite sign) → ⊥
 
--- node u has a place of one sign and none of the other. In a sound arena a variable has one node, so that for a variable's node this is `Removable`: the theorem `one-signed-removable`
+-- node u has a place of one sign and none of the other. In a sound arena a variable has one node, so that for a variable's node this is
+-- `Removable`: the theorem `one-signed-removable`
 pub record OneSigned (a : Arena) (root u : ℕ) : Type 0 where
   pub sign : Polarity
   pub place : Place a root positive u sign

@@ -90,14 +90,17 @@ pub record AddsAll (w s : List ℕ) (c : Counters) (n : ℕ) (sign : Polarity) (
   pub rows : Rows p′ q′
   pub kept : (t : Polarity) (u : ℕ) → has (side t p q) u ≡ true → has (side t p′ q′) u ≡ true
   pub new : (table : ℕ) (a : Arena) → Holds table w s c a → (t : Polarity) (u : ℕ) → ChildOf a n sign t u → has (side t p′ q′) u ≡ true
-  pub only : (table : ℕ) (a : Arena) → Holds table w s c a → (t : Polarity) (u : ℕ) → has (side t p′ q′) u ≡ true → (has (side t p q) u ≡ true) ⊎ ChildOf a n sign t u
+  pub only : (table : ℕ) (a : Arena) → Holds table w s c a → (t : Polarity) (u : ℕ) → has (side t p′ q′) u ≡ true
+      → (has (side t p q) u ≡ true) ⊎ ChildOf a n sign t u
 
 -- the same, if node n is in the set of the sign s
 pub record Visits (w s : List ℕ) (c : Counters) (n : ℕ) (sign : Polarity) (p q p′ q′ : List ℕ) : Type 0 where
   pub rows : Rows p′ q′
   pub kept : (t : Polarity) (u : ℕ) → has (side t p q) u ≡ true → has (side t p′ q′) u ≡ true
-  pub new : (table : ℕ) (a : Arena) → Holds table w s c a → has (side sign p q) n ≡ true → (t : Polarity) (u : ℕ) → ChildOf a n sign t u → has (side t p′ q′) u ≡ true
-  pub only : (table : ℕ) (a : Arena) → Holds table w s c a → (t : Polarity) (u : ℕ) → has (side t p′ q′) u ≡ true → (has (side t p q) u ≡ true) ⊎ ((has (side sign p q) n ≡ true) × ChildOf a n sign t u)
+  pub new : (table : ℕ) (a : Arena) → Holds table w s c a → has (side sign p q) n ≡ true → (t : Polarity) (u : ℕ) → ChildOf a n sign t u
+      → has (side t p′ q′) u ≡ true
+  pub only : (table : ℕ) (a : Arena) → Holds table w s c a → (t : Polarity) (u : ℕ) → has (side t p′ q′) u ≡ true
+      → (has (side t p q) u ≡ true) ⊎ ((has (side sign p q) n ≡ true) × ChildOf a n sign t u)
 
 -- memory holds an arena with a node n, and both sets have their words
 pub record Marking (w s : List ℕ) (c : Counters) (n : ℕ) (p q : List ℕ) : Type 0 where

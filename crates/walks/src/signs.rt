@@ -11,7 +11,8 @@ ghost use Prim.Native.Nat.{_<_};
 ghost use mathlib.Core.Path.{_≡_};
 ghost use Rattle.bits.specs.Bits.{has};
 ghost use Rattle.node_store.specs.Stored.{InRange};
-ghost use Rattle.walks.specs.Signs.{sign-of, turned, flag-after, Rows, Room, Adds, AddsWords, AddsAll, Visits, Marking, SignsIn, side};
+ghost use Rattle.walks.specs.Signs.{sign-of, turned, flag-after, Rows, Room, Adds, AddsWords, AddsAll, Visits, Marking, SignsIn};
+ghost use Rattle.walks.specs.Signs.{side};
 
 // Whether a node of this kind turns the sign of child i: `Neg` does, and a lambda that of its param.
 fn turns(kind: u32, i: usize) -> bool
@@ -21,10 +22,10 @@ fn turns(kind: u32, i: usize) -> bool
 }
 
 // The sign of a child, as a flag: its parent's, turned or not.
-fn sign_after(sign: bool, turned: bool) -> bool
-    ensures { λ r. ⌜ r ≡ flag-after sign turned ⌝ }
+fn sign_after(sign: bool, turn: bool) -> bool
+    ensures { λ r. ⌜ r ≡ flag-after sign turn ⌝ }
 {
-    if turned {
+    if turn {
         return !sign;
     }
     sign
@@ -45,7 +46,8 @@ fn add(positive: &mut [u64; 64], negative: &mut [u64; 64], sign: bool, n: u32)
 // Puts the children in the words of a node, which stands at a sign, into the sets of their signs.
 fn add_all(node: &[u32], sign: bool, positive: &mut [u64; 64], negative: &mut [u64; 64])
     requires { ⌜ Rows (now positive) (now negative) ⌝ }
-    ensures { λ _. ⌜ AddsWords (now (node .entry)) sign (now (positive .entry)) (now (negative .entry)) (now (positive .exit)) (now (negative .exit)) ⌝ }
+    ensures { λ _. ⌜ AddsWords (now (node .entry)) sign (now (positive .entry)) (now (negative .entry)) (now (positive .exit))
+        (now (negative .exit)) ⌝ }
 {
     if node.len() == 0 {
         return;
@@ -72,7 +74,8 @@ fn add_children(
     negative: &mut [u64; 64],
 )
     requires { ⌜ Marking (now words) (now starts) c n (now positive) (now negative) ⌝ }
-    ensures { λ _. ⌜ AddsAll (now (words .entry)) (now (starts .entry)) c n (sign-of sign) (now (positive .entry)) (now (negative .entry)) (now (positive .exit)) (now (negative .exit)) ⌝ }
+    ensures { λ _. ⌜ AddsAll (now (words .entry)) (now (starts .entry)) c n (sign-of sign) (now (positive .entry)) (now (negative .entry))
+        (now (positive .exit)) (now (negative .exit)) ⌝ }
 {
     add_all(node_at(words, starts, c, n), sign, positive, negative);
 }
@@ -88,7 +91,8 @@ fn visit(
     negative: &mut [u64; 64],
 )
     requires { ⌜ Marking (now words) (now starts) c n (now positive) (now negative) ⌝ }
-    ensures { λ _. ⌜ Visits (now (words .entry)) (now (starts .entry)) c n (sign-of sign) (now (positive .entry)) (now (negative .entry)) (now (positive .exit)) (now (negative .exit)) ⌝ }
+    ensures { λ _. ⌜ Visits (now (words .entry)) (now (starts .entry)) c n (sign-of sign) (now (positive .entry)) (now (negative .entry))
+        (now (positive .exit)) (now (negative .exit)) ⌝ }
 {
     let there = stands(n, sign, positive, negative);
     if there {

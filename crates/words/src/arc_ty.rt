@@ -1,6 +1,7 @@
 // The head of a node, and a child in a word.
 ghost use mathlib.Core.Path.{_≡_};
-ghost use Rattle.words.specs.Words.{IsBit, HeadFits, head-word, head-kind, head-open, head-dynamic, head-zero, head-count, child, child-zero};
+ghost use Rattle.words.specs.Words.{IsBit, HeadFits, head-word, head-kind, head-open, head-dynamic, head-zero, head-count, child};
+ghost use Rattle.words.specs.Words.{child-zero};
 
 // One in the lowest bit of a head's field.
 const KIND: u32 = 0x1000_0000;

@@ -102,7 +102,9 @@ pair p q = node (form (attrset (field false 0 ∷ field false 1 ∷ []) false fa
 
 -- F[a, int] and F[a, bool] as nodes 3 and 4, after a, int and bool
 abbrev lambdas : Arena
-lambdas = node (form lambda) (0 ∷ 2 ∷ []) ∷ node (form lambda) (0 ∷ 1 ∷ []) ∷ node (form (primitive 1)) [] ∷ node (form (primitive 2)) [] ∷ node (var 0) [] ∷ []
+lambdas =
+    node (form lambda) (0 ∷ 2 ∷ []) ∷ node (form lambda) (0 ∷ 1 ∷ []) ∷ node (form (primitive 1)) [] ∷ node (form (primitive 2)) []
+    ∷ node (var 0) [] ∷ []
 
 -- an arena is sound, and two lambdas in the type of its root take the same variable, or not
 abbrev shares : Arena → ℕ → Bool → Case
@@ -112,7 +114,8 @@ shares a root b = record { gives = bit (sound 2 a) ∷ bit (has-shared-tyvar-acr
 abbrev pub shared : List Case
 shared = shares (pair 3 3 ∷ lambdas) 5 false ∷ shares (pair 3 4 ∷ lambdas) 5 true ∷ []
 
--- what `simplify` makes of 01's types, both ladders among them: the root's node and the passes made. The cases stand with its definitions, whose must-fail edits need them
+-- what `simplify` makes of 01's types, both ladders among them: the root's node and the passes made. The cases stand with its definitions,
+-- whose must-fail edits need them
 abbrev pub simplified : List simplify.Case
 simplified = simplify.worked
 
@@ -123,7 +126,9 @@ pub record Normalized : Type 0 where
 
 -- U[int, null, U[null, bool]] as node 4, after int, null, bool and U[null, bool]
 abbrev nested : Arena
-nested = node (members positive) (0 ∷ 1 ∷ 3 ∷ []) ∷ node (members positive) (1 ∷ 2 ∷ []) ∷ node (form (primitive 1)) [] ∷ node (form (primitive 0)) [] ∷ node (form (primitive 2)) [] ∷ []
+nested =
+    node (members positive) (0 ∷ 1 ∷ 3 ∷ []) ∷ node (members positive) (1 ∷ 2 ∷ []) ∷ node (form (primitive 1)) []
+    ∷ node (form (primitive 0)) [] ∷ node (form (primitive 2)) [] ∷ []
 
 -- it becomes the union of null, bool and int, in this order, which is added as node 5 (01, "Worked types")
 abbrev pub normalized : List Normalized

@@ -115,11 +115,18 @@ fn of_source(parameter: &str) -> Vec<(String, String)> {
     }
 }
 
-fn in_source() -> Declared {
-    let folder = Path::new(env!("CARGO_MANIFEST_DIR")).join("../crates/lang_ty/src");
-    let files = fs::read_dir(folder).unwrap();
+/// The source of the crates of C calls.
+fn source() -> String {
+    let crates = Path::new(env!("CARGO_MANIFEST_DIR")).join("../crates");
+    let crates = fs::read_dir(crates).unwrap().map(|one| one.unwrap());
+    let crates = crates.filter(|one| one.file_name().to_string_lossy().starts_with("lang_ty_"));
+    let files = crates.flat_map(|one| fs::read_dir(one.path().join("src")).unwrap());
     let texts = files.map(|file| fs::read_to_string(file.unwrap().path()).unwrap());
-    let text: String = texts.collect();
+    texts.collect()
+}
+
+fn in_source() -> Declared {
+    let text = source();
     let found = functions(&text, "pub extern \"C\" fn ").into_iter();
     let found = found.map(|(name, parameters)| {
         let parameters = parameters.split(',').map(str::trim);

@@ -1,5 +1,5 @@
 //! What the program `rewritten` must print, made as the lines of `walked` are: each call is put as a case, and its answer is the
-//! one that the reference gives to `vectors`. The stored lines were made, and are made anew when a type or a call joins, by
+//! one that the reference gives to `vectors` and `vectors_reading`. The stored lines were made, and are made anew when a type or a call joins, by
 //!
 //!     compare/target/release/rewritten >crates/rewritten/stdout
 //!

@@ -1,5 +1,5 @@
 //! What the program `walked` must print: the types that its lines name are built as nodes (`deep.rs`), each call is put as a case, and
-//! its answer is the one that the reference gives to `vectors`, so the unchanged Rust's; where a type can't be unfolded,
+//! its answer is the one that the reference gives to `vectors` and `vectors_reading`, so the unchanged Rust's; where a type can't be unfolded,
 //! `simplify` is the second run's. Nothing of our program is run for it. The stored lines were made, and are made anew when a type or a call joins, by
 //!
 //!     compare/target/release/walked >crates/walked/stdout

@@ -32,7 +32,7 @@ same-length-2 : tie.Need-same-length-2
 same-length-2 c = search needs
 
 returns : tie.Need-returns
-returns c = search cleared-done
+returns c = cleared-done (c .before .before .before .before .before .before .before .before .before .before .before .before .before .before .before .before .before .before .before .before .before .before .before .pre) (c .before .before .before .before .before .before .before .before .before .before .before .before .before .before .before .before .before .take-back .ensures) (c .before .before .before .before .before .before .before .before .before .before .before .before .before .take-back2 .ensures) (c .before .before .before .before .before .before .before .compact-inner .ensures) (c .before .r .given .1) (search needs) (search needs)
 
 same-length-3 : tie.Need-same-length-3
 same-length-3 c = search needs
@@ -41,7 +41,7 @@ same-length-4 : tie.Need-same-length-4
 same-length-4 c = search needs
 
 returns-2 : tie.Need-returns-2
-returns-2 c = search cleared-stopped
+returns-2 c = cleared-stopped (c .before .before .before .before .before .before .before .before .before .before .before .before .before .before .before .before .before .before .before .before .before .before .before .before .before .before .before .before .before .before .before .pre) (c .before .before .before .before .before .before .before .before .before .before .before .before .before .before .before .before .before .before .before .before .before .before .before .before .before .take-back .ensures) (c .before .before .before .before .before .before .before .before .before .before .before .before .before .before .before .before .before .before .before .before .before .take-back2 .ensures) (c .before .before .before .before .before .before .before .before .before .before .before .before .before .before .before .compact-inner .ensures) (c .before .before .before .before .before .before .before .before .before .r2 .given .1) (c .before .before .before .before .before .before .take-back3 .ensures) (c .before .before .take-back4 .ensures) (search needs) (search needs)
 
 pub compact-cleared-spec : {M : Type 1} → statement M
 compact-cleared-spec =

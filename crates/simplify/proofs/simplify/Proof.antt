@@ -11,11 +11,11 @@ judge-requires c κs = search needs
 enum-known-lent : tie.Need-enum-known-lent
 enum-known-lent c = search needs
 
+enum-told : tie.Need-enum-told
+enum-told c = search needs
+
 simplify-lent-requires : tie.Need-simplify-lent-requires
 simplify-lent-requires c κs = search lent-known
-
-enum-known-lent-2 : tie.Need-enum-known-lent-2
-enum-known-lent-2 c = search needs
 
 same-length : tie.Need-same-length
 same-length c = search needs
@@ -41,8 +41,8 @@ simplify-spec =
     (tie.spec
     judge-requires
     enum-known-lent
+    enum-told
     simplify-lent-requires
-    enum-known-lent-2
     same-length
     same-length-2
     returns

@@ -1,29 +1,60 @@
--- The table computes to the short texts of the definition, so its entry at a code is the right one.
+-- Each arm has the text of its code; where none has the code it is no primitive's.
 use borrow.Author.Needs.{needs}
 use Rattle.types.specs.Short.{short-text}
-use Rattle.primitive.proofs.Primitives.{texts-at, texts-past}
+use Rattle.primitive.specs.Primitive.{primitive-text}
+use Rattle.primitive.proofs.Primitives.{text-of, no-text}
 use Rattle.primitive.proofs.PrimitiveTy.text.Statement.{statement}
 use Rattle.primitive.proofs.PrimitiveTy.text.Tie as tie
-
-cast-code : tie.Need-cast-code
-cast-code c = search needs
-
-mul-result : tie.Need-mul-result
-mul-result c = search needs
-
-array-copy-out-result : tie.Need-array-copy-out-result
-array-copy-out-result c = search needs
 
 new-requires : tie.Need-new-requires
 new-requires c κs = search needs
 
 returns : tie.Need-returns
-unfolding short-text
-returns c = search (texts-at, needs)
+unfolding short-text primitive-text
+returns c = search text-of
 
 returns-2 : tie.Need-returns-2
-returns-2 c = search texts-past
+unfolding short-text primitive-text
+returns-2 c = search text-of
+
+returns-3 : tie.Need-returns-3
+unfolding short-text primitive-text
+returns-3 c = search text-of
+
+returns-4 : tie.Need-returns-4
+unfolding short-text primitive-text
+returns-4 c = search text-of
+
+returns-5 : tie.Need-returns-5
+unfolding short-text primitive-text
+returns-5 c = search text-of
+
+returns-6 : tie.Need-returns-6
+unfolding short-text primitive-text
+returns-6 c = search text-of
+
+returns-7 : tie.Need-returns-7
+unfolding short-text primitive-text
+returns-7 c = search text-of
+
+returns-8 : tie.Need-returns-8
+unfolding short-text primitive-text
+returns-8 c = search text-of
+
+returns-9 : tie.Need-returns-9
+returns-9 c = search no-text
 
 pub text-spec : {M : Type 1} → statement M
 text-spec =
-    tie.close (tie.spec cast-code mul-result array-copy-out-result new-requires returns returns-2)
+    tie.close
+    (tie.spec
+    new-requires
+    returns
+    returns-2
+    returns-3
+    returns-4
+    returns-5
+    returns-6
+    returns-7
+    returns-8
+    returns-9)

@@ -1,0 +1,46 @@
+-- Reply and demand are those that `simplify` promises, told by the cases of its answer; 0 isn't told of a refusal.
+use borrow.Author.Needs.{needs}
+use Rattle.lang_ty_rewriting.proofs.TellingArenas.{simplified-type, simplified-refused}
+use Rattle.lang_ty_rewriting.proofs.lang_ty_simplify.Statement.{statement}
+use Rattle.lang_ty_rewriting.proofs.lang_ty_simplify.Tie as tie
+
+simplify-requires : tie.Need-simplify-requires
+simplify-requires c κs = search needs
+
+enum-known-answer : tie.Need-enum-known-answer
+enum-known-answer c = search needs
+
+enum-known-answer-2 : tie.Need-enum-known-answer-2
+enum-known-answer-2 c = search needs
+
+same-length : tie.Need-same-length
+same-length c = search needs
+
+same-length-2 : tie.Need-same-length-2
+same-length-2 c = search needs
+
+returns : tie.Need-returns
+returns c = search simplified-type
+
+same-length-3 : tie.Need-same-length-3
+same-length-3 c = search needs
+
+same-length-4 : tie.Need-same-length-4
+same-length-4 c = search needs
+
+returns-2 : tie.Need-returns-2
+returns-2 c = search simplified-refused
+
+pub lang-ty-simplify-spec : {M : Type 1} → statement M
+lang-ty-simplify-spec =
+    tie.close
+    (tie.spec
+    simplify-requires
+    enum-known-answer
+    enum-known-answer-2
+    same-length
+    same-length-2
+    returns
+    same-length-3
+    same-length-4
+    returns-2)

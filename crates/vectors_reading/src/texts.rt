@@ -1,0 +1,139 @@
+// The text of a type.
+use answer_writing::lines::Step;
+use answer_writing::lines::done;
+use answer_writing::lines::ok;
+use answer_writing::lines::refused;
+use answer_writing::output::Output;
+use answer_writing::output::put_bytes;
+use answer_writing::output::put_text;
+use case_reading::host::Host;
+use case_reading::host::Words;
+use case_reading::host::lend_host;
+use case_reading::numbers::add;
+use case_reading::numbers::first;
+use case_reading::numbers::part;
+use case_reading::numbers::word;
+use display::Displayed;
+use display::display;
+use types::Counters;
+use types::arc_ty::wide;
+
+// As many bytes as a text can be lent.
+pub type Text = [u8; 70000];
+
+// What lent bytes are before a text is written.
+const UNTOUCHED: u8 = 0xaa;
+
+// All bytes become this one.
+fn fill(text: &mut [u8], byte: u8) {
+    let mut i = 0;
+    while i < text.len() {
+        text[i] = byte;
+        i += 1;
+    }
+}
+
+// Whether all bytes are this one.
+fn all_are(text: &[u8], byte: u8) -> bool {
+    let mut i = 0;
+    while i < text.len() {
+        if text[i] != byte {
+            return false;
+        }
+        i += 1;
+    }
+    true
+}
+
+// After 9 the bytes are zero, after another number as lent.
+fn refused_right(number: u32, text: &[u8]) -> bool {
+    if number == 9 {
+        return all_are(text, 0);
+    }
+    all_are(text, UNTOUCHED)
+}
+
+// Whether the bytes are as they should be: past a text they are as lent.
+fn left_right(r: Displayed, text: &[u8]) -> bool {
+    match r {
+        Displayed::Text(length) => all_are(part(text, length, text.len()), UNTOUCHED),
+        Displayed::Refused(number) => refused_right(number, text),
+    }
+}
+
+// What `display` answered, and its text.
+fn displayed(out: &mut Output, held: usize, r: Displayed, text: &[u8]) -> usize {
+    match r {
+        Displayed::Text(length) => {
+            let held = ok(out, held, length);
+            put_bytes(out, held, part(text, 0, length))
+        }
+        Displayed::Refused(number) => refused(out, held, number),
+    }
+}
+
+// The line of an answer. What the call left beside the text is judged here, for no answer shows it.
+fn judged(out: &mut Output, held: usize, r: Displayed, text: &[u8]) -> usize {
+    let held = displayed(out, held, r, text);
+    if left_right(r, text) {
+        return held;
+    }
+    put_text(out, held, b" with bytes that aren't as they should be")
+}
+
+// The call, on bytes that all have the same value.
+fn display_lent(
+    table: &[u8],
+    words: &[u32],
+    starts: &[u32],
+    c: Counters,
+    root: u32,
+    text: &mut [u8],
+    out: &mut Output,
+    held: usize,
+) -> usize {
+    fill(text, UNTOUCHED);
+    let r = display(table, words, starts, c, root, text);
+    judged(out, held, r, text)
+}
+
+// The same for the parts of a case.
+fn display_parts(
+    s: &[u8],
+    h: Host,
+    words: &[u32],
+    starts: &[u32],
+    text: &mut [u8],
+    out: &mut Output,
+    held: usize,
+) -> Step {
+    let lent = wide(word(s, add(h.next, 4)));
+    let end = add(h.next, 8);
+    if s.len() < end || text.len() < lent {
+        return Step::Cut;
+    }
+    let held = display_lent(
+        part(s, 3, h.table),
+        first(words, h.words),
+        first(starts, h.starts),
+        h.counters,
+        word(s, h.next),
+        &mut text[0..lent],
+        out,
+        held,
+    );
+    done(end, out, held)
+}
+
+// The text of a type.
+pub fn display_type(
+    s: &[u8],
+    words: &mut Words,
+    starts: &mut Words,
+    text: &mut Text,
+    out: &mut Output,
+    held: usize,
+) -> Step {
+    let h = lend_host(s, words, starts);
+    display_parts(s, h, words, starts, text, out, held)
+}
