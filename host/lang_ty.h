@@ -9,10 +9,11 @@
 #include <stddef.h>
 #include <stdint.h>
 
-/* The most words and starts of an arena, and bytes of the text of a type. */
+/* The most words and starts of an arena, and bytes of the text of a type and of a sheet. */
 #define LANG_TY_WORDS 16384
 #define LANG_TY_STARTS 4096
 #define LANG_TY_TEXT 65536
+#define LANG_TY_SHEET 65536
 /* How much is lent, no more and no less, where no length is passed. */
 #define LANG_TY_VARS 4096
 #define LANG_TY_TYVAR_NAME 11
@@ -33,6 +34,11 @@ extern "C" {
 uint32_t lang_ty_check_names(
     const uint8_t *table, size_t table_len,
     size_t *count);
+
+/* Where the text of the name with this number lies in the table, and how many bytes it has. */
+uint32_t lang_ty_name_at(
+    const uint8_t *table, size_t table_len,
+    uint32_t number, size_t *start, size_t *length);
 
 /* How two names stand in order, without their length bytes. */
 uint32_t lang_ty_compare_names(
@@ -110,6 +116,13 @@ uint32_t lang_ty_display(
     const uint32_t *words, size_t words_len, const uint32_t *starts, size_t starts_len,
     size_t nodes, size_t used,
     uint32_t root, uint8_t *text, size_t text_len, size_t *len);
+
+/* The sheet of the table's names, the arena and the root; bytes past it stay, and a refusal leaves all of them. */
+uint32_t lang_ty_write_sheet(
+    const uint8_t *table, size_t table_len,
+    const uint32_t *words, size_t words_len, const uint32_t *starts, size_t starts_len,
+    size_t nodes, size_t used,
+    uint32_t root, uint8_t *bytes, size_t bytes_len, size_t *len);
 
 /* Calls that change an arena, or make one. A refusal leaves its words, starts and counters as they were, except that 7
  * leaves the target of lang_ty_compact zero and empty. */

@@ -124,13 +124,13 @@ struct results {
     uint32_t number, passes;
     size_t length;
     uint32_t vars[LANG_TY_VARS];
-    uint8_t text[32];
+    uint8_t text[64];
     size_t target_nodes, target_used;
     uint32_t target_words[LANG_TY_WORDS + 1], target_starts[LANG_TY_STARTS + 1];
 };
 
 /* Which results a call writes. */
-enum { NUMBER = 1, PASSES = 2, VARS = 4, TEXT = 8, TARGET = 16 };
+enum { NUMBER = 1, PASSES = 2, VARS = 4, TEXT = 8, TARGET = 16, SHEET = 32 };
 
 struct row;
 
@@ -152,7 +152,7 @@ struct row {
     uint32_t other;            /* of compare, and the right root of structurally_eq */
     const char *right_table;   /* of structurally_eq */
     struct list right;
-    size_t text_lent;          /* of display */
+    size_t text_lent;          /* of display and write_sheet */
     size_t target_words, target_starts; /* of compact: how many are lent */
 
     uint32_t answer;
@@ -160,6 +160,8 @@ struct row {
     struct list added; /* nodes behind those given */
     struct list vars, target;
     const char *text;
+    const uint8_t *sheet;
+    size_t sheet_len;
 };
 
 /* The calls on a root that write one number. */
@@ -214,6 +216,12 @@ static uint32_t make_display(const struct row *row, struct host *h, struct resul
 }
 static const struct call display = {make_display, TEXT};
 
+static uint32_t make_write_sheet(const struct row *row, struct host *h, struct results *r)
+{
+    return TOLD(lang_ty_write_sheet, READ(h), row->root, r->text, row->text_lent, &r->length);
+}
+static const struct call write_sheet = {make_write_sheet, SHEET};
+
 static uint32_t make_intern(const struct row *row, struct host *h, struct results *r)
 {
     static const uint32_t none;
@@ -264,7 +272,11 @@ static void expect(const struct row *row, struct results *r)
         r->length = strlen(row->text);
         memcpy(r->text, row->text, r->length);
     }
-    if (row->answer == 9)
+    if (writes & SHEET) {
+        r->length = row->sheet_len;
+        memcpy(r->text, row->sheet, r->length);
+    }
+    if (row->answer == 9 && row->call->writes & TEXT)
         memset(r->text, 0, row->text_lent);
     if (row->call->writes & TARGET && (row->answer == 0 || row->answer == 7))
         expect_target(row, r);
@@ -332,6 +344,15 @@ static void run(const struct row *row)
 #define TWICE WORDS(VAR(0), VAR(0))
 #define EMPTY_SETS WORDS(SET(0), SET(0) | 1u << 27)
 
+/* The sheet of document 01, and what it holds. */
+static const uint8_t example[] = {0, 0, 0, 3, 0, 2, 0x30, 0, 0, 1, 0, 0, 0, 0, 0x20, 0,
+                                  0, 1, 0, 0, 0, 2, 0x70, 0, 0, 2, 0, 0, 0, 0, 0, 0, 0, 1};
+#define EXAMPLE WORDS(VAR(0), INT, UNION(2), 0, 1)
+/* The names p and qr, the unknown variable, and a set with it under qr. */
+static const uint8_t with_names[] = {0, 2, 0, 2, 0, 1, 1, 'p', 2, 'q', 'r', 0x30, 0, 0, 1, 255,
+                                     255, 255, 255, 0x60, 0, 0, 1, 0, 0x80, 0, 0};
+#define SHEET_OF(bytes) .sheet = bytes, .sheet_len = sizeof bytes
+
 static const struct row reading[] = {
 #define ROW(what, ...) {.line = __LINE__, .call = &what, __VA_ARGS__}
     ROW(compare, .given = A_OR_INT, .root = 1, .other = 2, .number = LANG_TY_LESS),
@@ -367,6 +388,11 @@ static const struct row reading[] = {
     ROW(display, .given = EMPTY_SETS, .root = 0, .text_lent = 5, .text = "{  }"),
     ROW(display, .given = EMPTY_SETS, .root = 1, .text_lent = 9, .text = "{ ... }"),
     ROW(display, .given = WORDS(VAR(UNKNOWN)), .text_lent = 0, .answer = 9),
+    ROW(write_sheet, .given = EXAMPLE, .root = 2, .text_lent = 64, SHEET_OF(example)),
+    ROW(write_sheet, .given = EXAMPLE, .root = 2, .spare_words = 3, .spare_starts = 2, .text_lent = 34, SHEET_OF(example)),
+    ROW(write_sheet, .given = EXAMPLE, .root = 2, .text_lent = 33, .answer = 9),
+    ROW(write_sheet, .given = EXAMPLE, .root = 2, .text_lent = 0, .answer = 9),
+    ROW(write_sheet, .table = "\1p\2qr", .given = WORDS(VAR(UNKNOWN), SET(1), FIELD(1, 0)), .root = 1, .text_lent = 27, SHEET_OF(with_names)),
     ROW(compact, .given = WITH_A_REST, .root = 3, .target_words = 12, .target_starts = 6, .number = 2, .target = COPIED),
     ROW(compact, .given = WITH_A_REST, .root = 3, .target_words = 7, .target_starts = 3, .number = 2, .target = COPIED),
     ROW(compact, .given = WITH_A_REST, .root = 3, .target_words = 6, .target_starts = 3, .answer = 7),
@@ -450,8 +476,8 @@ static const struct row faulty[] = {
 
 static const struct call *const all[] = {
     &compare, &count_reachable, &unwrap_named, &has_type_vars, &needs_var_normalization, &contains_bare_tyvar,
-    &has_shared_tyvar_across_lambda_params, &free_type_vars, &structurally_eq, &display, &intern, &simplify,
-    &normalize_vars, &normalize_replacing_unknown, &normalize_set_ops, &compact,
+    &has_shared_tyvar_across_lambda_params, &free_type_vars, &structurally_eq, &display, &write_sheet,
+    &intern, &simplify, &normalize_vars, &normalize_replacing_unknown, &normalize_set_ops, &compact,
 };
 
 static void run_faulty(const struct call *call)
@@ -490,6 +516,33 @@ static void check_tables(void)
         uint32_t answer = TOLD(lang_ty_check_names, (const uint8_t *)tables[k].table, tables[k].len, &count);
         check(tables[k].line, "answer", answer, tables[k].answer);
         check(tables[k].line, "count", count, answer == 0 ? tables[k].count : 77);
+    }
+}
+
+static void check_places(void)
+{
+    static const struct {
+        int line;
+        const char *table;
+        size_t len;
+        uint32_t number, answer;
+        size_t start, length;
+    } places[] = {
+        {__LINE__, LINE_AND_TARGET, 12, 0, 0, 1, 4},
+        {__LINE__, LINE_AND_TARGET, 12, 1, 0, 6, 6},
+        {__LINE__, LINE_AND_TARGET, 12, 2, 4, 77, 78},
+        {__LINE__, LINE_AND_TARGET, 12, UNKNOWN, 4, 77, 78},
+        {__LINE__, "", 0, 0, 4, 77, 78},
+        {__LINE__, "\1p\1p", 4, 0, 1, 77, 78},
+        {__LINE__, "\1p\1p", 4, 9, 1, 77, 78}, /* 1 before 4 */
+    };
+    for (size_t k = 0; k < COUNT(places); k++) {
+        size_t start = 77, length = 78;
+        const uint8_t *table = (const uint8_t *)places[k].table;
+        uint32_t answer = TOLD(lang_ty_name_at, table, places[k].len, places[k].number, &start, &length);
+        check(places[k].line, "answer", answer, places[k].answer);
+        check(places[k].line, "start", start, places[k].start);
+        check(places[k].line, "length", length, places[k].length);
     }
 }
 
@@ -539,8 +592,6 @@ static void check_tyvar_names(void)
 
 static void check_sheets(void)
 {
-    static const uint8_t example[] = {0, 0, 0, 3, 0, 2, 0x30, 0, 0, 1, 0, 0, 0, 0, 0x20, 0,
-                                      0, 1, 0, 0, 0, 2, 0x70, 0, 0, 2, 0, 0, 0, 0, 0, 0, 0, 1};
     static const struct {
         int line;
         const uint8_t *sheet;
@@ -573,6 +624,7 @@ int main(void)
     for (size_t k = 0; k < COUNT(all); k++)
         run_faulty(all[k]);
     check_tables();
+    check_places();
     check_names();
     check_tyvar_names();
     check_sheets();

@@ -57,20 +57,8 @@ const CHAINS: [(&str, Step); 10] = [
     ("negs", OutputTy::Neg),
 ];
 
-/// Name count, node count and root, then the table, then the node words.
-fn sheet(arena: &TypeArena, root: TyRef) -> Vec<u8> {
-    let counts = [arena.names().len(), arena.len(), root.into_raw() as usize];
-    let mut sheet: Vec<u8> = Vec::new();
-    for count in counts {
-        sheet.extend((count as u16).to_be_bytes());
-    }
-    sheet.extend(arena.names().table());
-    sheet.extend(arena.words().iter().flat_map(|word| word.to_be_bytes()));
-    sheet
-}
-
 /// A refusal by 7 counts as well: it comes after the recursion is at its deepest.
-const OPERATIONS: [(&str, Operation); 18] = [
+const OPERATIONS: [(&str, Operation); 19] = [
     ("intern", |a, r| a.intern(OutputTy::List(r)).is_ok()),
     ("get", |a, r| a.get(r).is_ok()),
     ("compare", |a, r| a.compare(r, first()).is_ok()),
@@ -96,7 +84,10 @@ const OPERATIONS: [(&str, Operation); 18] = [
     }),
     ("normalize_set_ops", |a, r| a.normalize_set_ops(r).is_ok()),
     ("compact", |a, r| a.compact(r).is_ok()),
-    ("sheet_line", |a, r| sheet_line(&sheet(a, r)).is_ok()),
+    ("write_sheet", |a, r| a.write_sheet(r).is_ok()),
+    ("sheet_line", |a, r| {
+        sheet_line(&a.write_sheet(r).expect("it fits")).is_ok()
+    }),
 ];
 
 /// At the bottom is U[int, b], from which `simplify` drops b, so that it rebuilds what stands above.

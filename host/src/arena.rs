@@ -2,7 +2,7 @@ use std::cmp::Ordering;
 use std::fmt;
 
 use crate::ffi;
-use crate::memory::{Change, Memory, Question};
+use crate::memory::{Change, Memory, Question, Writing};
 use crate::words;
 use crate::{Names, OutputTy, Refusal, TyRef};
 
@@ -214,8 +214,26 @@ impl TypeArena {
 
     /// The text at the front of lent bytes; the bytes past it stay. 6 leaves all of them; 9 sets all to 0.
     pub fn display_into<'a>(&self, ty: TyRef, text: &'a mut [u8]) -> Result<&'a str, Refusal> {
-        let length = self.memory.display(ty.into_raw(), text)?;
+        let length = self.memory.write(Writing::Display, ty.into_raw(), text)?;
         Ok(std::str::from_utf8(&text[..length]).expect("a text has bytes 32 to 126"))
+    }
+
+    /// The sheet of the names, all nodes and the type as its root; 6, and 9 if it is over 65,536 bytes.
+    pub fn write_sheet(&self, ty: TyRef) -> Result<Vec<u8>, Refusal> {
+        let mut bytes = vec![0; ffi::SHEET];
+        let length = self.write_sheet_into(ty, &mut bytes)?.len();
+        bytes.truncate(length);
+        Ok(bytes)
+    }
+
+    /// The sheet at the front of lent bytes; the bytes past it stay. A refusal leaves all of them.
+    pub fn write_sheet_into<'a>(
+        &self,
+        ty: TyRef,
+        bytes: &'a mut [u8],
+    ) -> Result<&'a [u8], Refusal> {
+        let length = self.memory.write(Writing::Sheet, ty.into_raw(), bytes)?;
+        Ok(&bytes[..length])
     }
 }
 

@@ -1,10 +1,11 @@
 //! The calls of the static library, one to one with `lang_ty.h`. docs/HOST.md says what each asks of its pointers and
 //! leaves in memory; the rest of this crate needs nothing of this module from its user.
 
-/// The most words and starts of an arena, and bytes of the text of a type.
+/// The most words and starts of an arena, and bytes of the text of a type and of a sheet.
 pub const WORDS: usize = 16_384;
 pub const STARTS: usize = 4_096;
 pub const TEXT: usize = 65_536;
+pub const SHEET: usize = 65_536;
 /// How much is lent, no more and no less, where no length is passed.
 pub const VARS: usize = 4_096;
 pub const TYVAR_NAME: usize = 11;
@@ -17,6 +18,14 @@ pub const GREATER: u32 = 2;
 
 extern "C" {
     pub fn lang_ty_check_names(table: *const u8, table_len: usize, count: *mut usize) -> u32;
+
+    pub fn lang_ty_name_at(
+        table: *const u8,
+        table_len: usize,
+        number: u32,
+        start: *mut usize,
+        length: *mut usize,
+    ) -> u32;
 
     pub fn lang_ty_compare_names(
         left: *const u8,
@@ -166,6 +175,21 @@ extern "C" {
         root: u32,
         text: *mut u8,
         text_len: usize,
+        len: *mut usize,
+    ) -> u32;
+
+    pub fn lang_ty_write_sheet(
+        table: *const u8,
+        table_len: usize,
+        words: *const u32,
+        words_len: usize,
+        starts: *const u32,
+        starts_len: usize,
+        nodes: usize,
+        used: usize,
+        root: u32,
+        bytes: *mut u8,
+        bytes_len: usize,
         len: *mut usize,
     ) -> u32;
 

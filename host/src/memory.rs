@@ -3,6 +3,8 @@
 //! the borrow is mutable, and each length is that slice's. So no pointer is null, nothing that is written overlaps
 //! another argument, and all of it is initialised. The library keeps no pointer, and no call of it unwinds.
 
+use std::ops::Range;
+
 use crate::ffi;
 use crate::{Names, Refusal};
 
@@ -35,6 +37,13 @@ pub(crate) enum Change {
     Vars,
     ReplacingUnknown,
     SetOps,
+}
+
+/// The calls that write into lent bytes.
+#[derive(Clone, Copy)]
+pub(crate) enum Writing {
+    Display,
+    Sheet,
 }
 
 impl Memory {
@@ -300,13 +309,17 @@ impl Memory {
         Refusal::judge(answer).map(|()| is == 1)
     }
 
-    /// How many bytes the text has that was written.
-    pub fn display(&self, root: u32, text: &mut [u8]) -> Reply<usize> {
+    /// How many bytes were written.
+    pub fn write(&self, writing: Writing, root: u32, bytes: &mut [u8]) -> Reply<usize> {
+        let call = match writing {
+            Writing::Display => ffi::lang_ty_display,
+            Writing::Sheet => ffi::lang_ty_write_sheet,
+        };
         let table = self.names.table();
         let mut length = 0;
         // SAFETY: see the head of this file.
         let answer = unsafe {
-            ffi::lang_ty_display(
+            call(
                 table.as_ptr(),
                 table.len(),
                 self.words.as_ptr(),
@@ -316,8 +329,8 @@ impl Memory {
                 self.nodes,
                 self.used,
                 root,
-                text.as_mut_ptr(),
-                text.len(),
+                bytes.as_mut_ptr(),
+                bytes.len(),
                 &mut length,
             )
         };
@@ -331,6 +344,16 @@ pub(crate) fn check_names(table: &[u8]) -> Reply<usize> {
     // SAFETY: see the head of this file.
     let answer = unsafe { ffi::lang_ty_check_names(table.as_ptr(), table.len(), &mut count) };
     Refusal::judge(answer).map(|()| count)
+}
+
+/// Where the text of the name with this number lies in the table.
+pub(crate) fn name_at(table: &[u8], number: u32) -> Reply<Range<usize>> {
+    let (mut start, mut length) = (0, 0);
+    // SAFETY: see the head of this file.
+    let answer = unsafe {
+        ffi::lang_ty_name_at(table.as_ptr(), table.len(), number, &mut start, &mut length)
+    };
+    Refusal::judge(answer).map(|()| start..start + length)
 }
 
 /// One of `ffi::LESS`, `ffi::EQUAL` and `ffi::GREATER`. It is never refused.

@@ -1,11 +1,14 @@
+use std::ops::Range;
+
 use crate::memory;
 use crate::Refusal;
 
 /// The names that the nodes of an arena may use, at most 256: sorted bytewise, each once.
 #[derive(Debug, Clone, Default, PartialEq, Eq)]
 pub struct Names {
-    texts: Vec<String>,
     table: Vec<u8>,
+    /// Where the text of each name lies in the table, as the library says.
+    places: Vec<Range<usize>>,
 }
 
 impl Names {
@@ -24,19 +27,21 @@ impl Names {
         }
         let count = memory::check_names(&table)?;
         assert_eq!(count, texts.len(), "the library counts other names");
-        Ok(Names { texts, table })
+        let places = (0..count as u32).map(|number| memory::name_at(&table, number));
+        let places = places.collect::<Result<_, _>>()?;
+        Ok(Names { table, places })
     }
 
     pub fn len(&self) -> usize {
-        self.texts.len()
+        self.places.len()
     }
 
     pub fn is_empty(&self) -> bool {
-        self.texts.is_empty()
+        self.places.is_empty()
     }
 
     pub fn iter(&self) -> impl Iterator<Item = &str> {
-        self.texts.iter().map(String::as_str)
+        self.places.iter().map(|place| self.at(place))
     }
 
     /// The table as the library reads it, and as it stands in a sheet: a length byte before each name.
@@ -45,11 +50,16 @@ impl Names {
     }
 
     pub(crate) fn number(&self, name: &str) -> Option<u32> {
-        let found = self.texts.binary_search_by(|text| text.as_str().cmp(name));
-        found.ok().map(|at| at as u32)
+        let stands = |place: &Range<usize>| self.at(place).cmp(name);
+        let found = self.places.binary_search_by(stands);
+        found.ok().map(|number| number as u32)
     }
 
     pub(crate) fn text(&self, number: u32) -> &str {
-        &self.texts[number as usize]
+        self.at(&self.places[number as usize])
+    }
+
+    fn at(&self, place: &Range<usize>) -> &str {
+        std::str::from_utf8(&self.table[place.clone()]).expect("bytes from 32 to 126 are a text")
     }
 }

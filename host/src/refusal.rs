@@ -46,7 +46,7 @@ impl fmt::Display for Refusal {
             6 => "the author of the call: the root isn't below the node count",
             7 => "the size of the work: the arena has no room for a node that is needed",
             8 => "the size of the work: a member list would have a 65th different member",
-            9 => "the size of the work: the text exceeds the lent bytes, or 65,536 bytes",
+            9 => "the size of the work: the text or the sheet exceeds the lent bytes, or 65,536 bytes",
             10 => "the sender of the sheet: it ends early, goes on, is too long or repeats a node",
             _ => unreachable!("the library answers 0 to 10"),
         };

@@ -27,12 +27,14 @@ pub fn case(op: u8, random: &mut Random) -> Case {
         3 => order(random),
         4 => simplify(random),
         5 => display(random),
-        6 => Case::Table(table(random)),
+        6 => Case::Table(table(random, 60).0),
         7 => name_order(random),
         8 => sheet(random),
         9..=17 | 20 => on_type(op, random),
         18 => compact(random),
         19 => equal(random),
+        21 => write_sheet(random),
+        22 => name_at(random),
         _ => panic!("no operation {op}"),
     }
 }
@@ -273,18 +275,37 @@ fn display(random: &mut Random) -> Case {
     }
     let text = Rust::holding(&arena.nodes, &texts(&arena)).display(at, TEXT);
     let length = text.map_or(TEXT as u32, |text| text.len() as u32);
-    let room = match random.below(6) {
-        0 | 1 => length,
-        2 => length - 1,
-        3 => length + random.below(100) as u32,
-        4 => random.pick(&[0, 1, 65_535, 65_536, 65_537, MOST_ROOM]),
-        _ => random.below(length as usize + 1) as u32,
-    };
+    let room = room(length, random);
     let mut host = host(&arena, random);
     if random.percent(6) {
         damage::host(&mut host, random);
     }
     Case::Display(host, root(&arena, at, random), room)
+}
+
+/// How many bytes are lent for so many: as many, one less, a few more, or any number.
+fn room(length: u32, random: &mut Random) -> u32 {
+    match random.below(6) {
+        0 | 1 => length,
+        2 => length - 1,
+        3 => length + random.below(100) as u32,
+        4 => random.pick(&[0, 1, 65_535, 65_536, 65_537, MOST_ROOM]),
+        _ => random.below(length as usize + 1) as u32,
+    }
+}
+
+fn write_sheet(random: &mut Random) -> Case {
+    let Shape { arena, root: at } = match random.percent(1) {
+        true => full_sheet(random),
+        false => shape(random),
+    };
+    let length = 6 + arena.table().len() + 4 * arena.words;
+    let room = room(length as u32, random);
+    let mut host = host(&arena, random);
+    if random.percent(6) {
+        damage::host(&mut host, random);
+    }
+    Case::WriteSheet(host, root(&arena, at, random), room)
 }
 
 /// A type whose text has 65,533 bytes, and up to three wraps of two or three bytes each round it.
@@ -299,16 +320,28 @@ fn long_text(arena: &mut Build, random: &mut Random) -> u32 {
     at
 }
 
-fn table(random: &mut Random) -> Vec<u8> {
+/// A table, so many in a hundred with faults, and how many names it was made of.
+fn table(random: &mut Random, faulty: usize) -> (Vec<u8>, usize) {
     let count = random.pick(&[0, 1, 2, 3, 8, 30, 255, 256, 257]);
     let names = names(random, count);
     let mut table = Build::named(names).table();
-    if random.percent(60) {
+    if random.percent(faulty) {
         for _ in 0..random.pick(&[1, 1, 2, 3]) {
             damage::table(&mut table, random);
         }
     }
-    table
+    (table, count)
+}
+
+/// Mostly a name that the table has, else one of the next, or any number.
+fn name_at(random: &mut Random) -> Case {
+    let (table, count) = table(random, 15);
+    let number = match random.below(8) {
+        0 => (count + random.below(3)) as u32,
+        1 => random.word(),
+        _ => random.below(count.max(1)) as u32,
+    };
+    Case::NameAt(table, number)
 }
 
 fn name_order(random: &mut Random) -> Case {

@@ -36,6 +36,13 @@ pub fn cases(op: u8) -> Vec<Case> {
             ]
         }),
         19 => on_types(|host, root| vec![Case::Equal((host.clone(), root), (host, root))]),
+        21 => on_types(|host, root| {
+            let length = 6 + host.table.len() as u32 + 4 * host.memory.used;
+            [TEXT as u32 + 1, length, length - 1]
+                .map(|r| Case::WriteSheet(host.clone(), root, r))
+                .into()
+        }),
+        22 => places(),
         _ => panic!("no operation {op}"),
     }
 }
@@ -54,6 +61,22 @@ fn on_types(call: impl Fn(Host, u32) -> Vec<Case>) -> Vec<Case> {
 fn numbered(count: usize) -> Build {
     let name = |n: usize| vec![b'A' + (n / 26) as u8, b'a' + (n % 26) as u8];
     Build::named((0..count).map(name).collect())
+}
+
+/// The first and the last name of a table, and the numbers past it, for tables of every limit.
+fn places() -> Vec<Case> {
+    let longest = Build::named(vec![b"x".to_vec(), vec![b'x'; 64]]);
+    let tables = [0, 1, 2, 255, 256, 257].map(numbered);
+    let places = |table: Build| {
+        let count = table.names.len() as u32;
+        let numbers = [0, count.saturating_sub(1), count, u32::MAX];
+        numbers.map(|number| Case::NameAt(table.table(), number))
+    };
+    tables
+        .into_iter()
+        .chain([longest])
+        .flat_map(places)
+        .collect()
 }
 
 /// The types, each with its arena: a, b, `never`, `any`, `int`, `null` and `bool` are nodes 0 to 6.

@@ -20,6 +20,10 @@ pub fn cases(op: u8) -> Vec<Case> {
         9..=17 | 20 => types(|host, root| Case::OnType(op, host, root)),
         18 => types(|host, root| Case::Compact(host.clone(), root, host.memory)),
         19 => equals(),
+        21 => types(|host, root| Case::WriteSheet(host, root, 65_536)),
+        22 => texts(&[0, 1, 2, 31, 32, 126, 127], 4)
+            .flat_map(|table| [0, 1, 2].map(|number| Case::NameAt(table.clone(), number)))
+            .collect(),
         _ => panic!("no operation {op}"),
     }
 }

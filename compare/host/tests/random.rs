@@ -4,13 +4,14 @@ use std::collections::BTreeMap;
 use std::fmt::Debug;
 use std::sync::Arc;
 
-use coombtray::{tyvar_name, TyRef, TypeArena};
+use coombtray::{sheet_line, tyvar_name, TyRef, TypeArena};
 use host::both::{nodes, to_ours, to_theirs, Both, PRIMITIVES};
 use host::random::{type_of, Random};
 use lang_ty::simplify::simplify;
 use lang_ty::OwnedTy;
 
 const TYPES: u64 = 3_000;
+const SHEETS: u64 = 10_000;
 
 /// How often each answer was given, so that no comparison is of one answer alone.
 #[derive(Default)]
@@ -149,6 +150,31 @@ fn random_types() {
     }
     met.often("order", &["Less", "Equal", "Greater"]);
     met.often("passes", &["2", "3"]);
+}
+
+/// Written as a sheet and read again, the type has the line that the Rust gives it. The passes are ours.
+fn written(seed: u64, met: &mut Met) {
+    let (mut both, root) = type_of(seed);
+    let sheet = both.ours.write_sheet(root).unwrap();
+    let passes = both.ours.simplify(root).unwrap().passes;
+    let after = simplify(&mut both.theirs, to_theirs(root));
+    let text = both.theirs.display(after).to_string();
+    let line = format!("{} {passes} {text}", after.into_raw());
+    let read = sheet_line(&sheet).map_err(|refusal| refusal.number());
+    let fits = text.len() <= 65_536;
+    assert_eq!(read, if fits { Ok(line) } else { Err(9) });
+    met.note("over 256 bytes", sheet.len() > 256);
+}
+
+#[test]
+fn sheets() {
+    let mut met = Met::default();
+    stacker::maybe_grow(0, 0, || {
+        for seed in 0..SHEETS {
+            written(seed, &mut met);
+        }
+    });
+    met.often("over 256 bytes", &["true", "false"]);
 }
 
 #[test]

@@ -2,6 +2,7 @@
 
 use std::cmp::Ordering;
 use std::fmt::Write;
+use std::ops::Range;
 
 use lang_ty::TypeArena;
 
@@ -34,6 +35,7 @@ pub fn answer(case: &Case) -> Answer {
         Case::Simplify(host, root) => changed(host, calls::simplify(host, *root, left)),
         Case::Display(host, root, room) => said(calls::display(host, *root, *room).map(text)),
         Case::Table(bytes) => said(table::check(bytes).map(|names| format!("ok {}", names.len()))),
+        Case::NameAt(table, number) => said(table::place(table, *number).map(stretch)),
         Case::Names(left, right) => order(left.cmp(right)),
         Case::Sheet(bytes) => said(sheet::line(bytes, left)),
         Case::OnType(op, host, root) => on_type(*op, host, *root),
@@ -41,6 +43,9 @@ pub fn answer(case: &Case) -> Answer {
         Case::Equal(left, right) => {
             let equal = calls::structurally_eq((&left.0, left.1), (&right.0, right.1));
             said(equal.map(yes))
+        }
+        Case::WriteSheet(host, root, room) => {
+            said(calls::write_sheet(host, *root, *room).map(text))
         }
     };
     Answer { line, left_out }
@@ -84,8 +89,13 @@ fn order(order: Ordering) -> String {
     })
 }
 
-fn text(text: String) -> String {
-    format!("ok {} {}", text.len(), hex(text.as_bytes()))
+fn stretch(place: Range<usize>) -> String {
+    format!("ok {} {}", place.start, place.len())
+}
+
+fn text(text: impl AsRef<[u8]>) -> String {
+    let bytes = text.as_ref();
+    format!("ok {} {}", bytes.len(), hex(bytes))
 }
 
 fn variables(indexes: Vec<u32>) -> String {

@@ -11,6 +11,7 @@ use crate::node::{decode, Node};
 use crate::order;
 use crate::rust::Rust;
 use crate::set_ops::normalize_set_ops;
+use crate::sheet::{self, Sheet};
 use crate::simplify::{self, first_refusal};
 use crate::{table, Reply, NODES, WORDS};
 
@@ -85,6 +86,20 @@ pub fn simplify(host: &Host, root: u32, left_out: &mut bool) -> Reply<Changed> {
 
 pub fn display(host: &Host, root: u32, room: u32) -> Reply<String> {
     rust(host, root)?.display(root, room as usize)
+}
+
+/// The bytes of the sheet, which must be read as what was written.
+pub fn write_sheet(host: &Host, root: u32, room: u32) -> Reply<Vec<u8>> {
+    let (names, nodes) = read(host)?;
+    below(root, &nodes)?;
+    let sheet = Sheet { names, nodes, root };
+    let bytes = sheet::write(&sheet, room as usize)?;
+    assert_eq!(
+        sheet::read(&bytes),
+        Ok(sheet),
+        "the sheet is read as another"
+    );
+    Ok(bytes)
 }
 
 pub fn set_ops(host: &Host, root: u32) -> Reply<Changed> {

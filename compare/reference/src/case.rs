@@ -17,6 +17,8 @@ pub enum Case {
     Simplify(Host, u32),
     Display(Host, u32, u32),
     Table(Vec<u8>),
+    /// A table and the number of a name.
+    NameAt(Vec<u8>, u32),
     Names(Vec<u8>, Vec<u8>),
     Sheet(Vec<u8>),
     /// A call that takes a type and nothing else; its number says which.
@@ -24,11 +26,12 @@ pub enum Case {
     /// The arena to be copied from, the root, and the target.
     Compact(Host, u32, Memory),
     Equal((Host, u32), (Host, u32)),
+    WriteSheet(Host, u32, u32),
 }
 
 /// The numbers of the operations, all that there are.
-pub const OPS: [u8; 20] = [
-    1, 2, 3, 4, 5, 6, 7, 8, 9, 10, 11, 12, 13, 14, 15, 16, 17, 18, 19, 20,
+pub const OPS: [u8; 22] = [
+    1, 2, 3, 4, 5, 6, 7, 8, 9, 10, 11, 12, 13, 14, 15, 16, 17, 18, 19, 20, 21, 22,
 ];
 
 /// Cases are taken from the front.
@@ -106,6 +109,8 @@ impl Iterator for Reader<'_> {
             op @ (9..=17 | 20) => Case::OnType(op as u8, self.host(), self.word()),
             18 => Case::Compact(self.host(), self.word(), self.memory()),
             19 => Case::Equal((self.host(), self.word()), (self.host(), self.word())),
+            21 => Case::WriteSheet(self.host(), self.word(), self.word()),
+            22 => Case::NameAt(self.text(2), self.word()),
             op => panic!("no operation {op}"),
         })
     }
@@ -177,6 +182,8 @@ impl Case {
             Case::OnType(op, ..) => *op,
             Case::Compact(..) => 18,
             Case::Equal(..) => 19,
+            Case::WriteSheet(..) => 21,
+            Case::NameAt(..) => 22,
         }
     }
 
@@ -188,10 +195,12 @@ impl Case {
                 to.host(host);
                 to.words(node);
             }
-            Case::Order(host, left, right) | Case::Display(host, left, right) => {
+            Case::Order(host, first, second)
+            | Case::Display(host, first, second)
+            | Case::WriteSheet(host, first, second) => {
                 to.host(host);
-                to.word(*left);
-                to.word(*right);
+                to.word(*first);
+                to.word(*second);
             }
             Case::Simplify(host, root) | Case::OnType(_, host, root) => {
                 to.host(host);
@@ -209,6 +218,10 @@ impl Case {
                 }
             }
             Case::Table(table) => to.text(table, 2),
+            Case::NameAt(table, number) => {
+                to.text(table, 2);
+                to.word(*number);
+            }
             Case::Names(left, right) => {
                 to.text(left, 1);
                 to.text(right, 1);

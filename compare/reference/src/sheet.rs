@@ -1,4 +1,4 @@
-//! A sheet and its line. A sheet is read from the front, and the first fault met is the answer.
+//! A sheet, written and read, and its line. A sheet is read from the front, and the first fault met is the answer.
 
 use std::collections::HashSet;
 
@@ -33,6 +33,7 @@ impl<'a> Bytes<'a> {
 }
 
 /// What a sheet holds.
+#[derive(Debug, PartialEq)]
 pub struct Sheet {
     pub names: Vec<String>,
     pub nodes: Vec<Node>,
@@ -96,6 +97,26 @@ pub fn read(sheet: &[u8]) -> Reply<Sheet> {
     Ok(Sheet { names, nodes, root })
 }
 
+/// The bytes of a sheet; 9 if they are more than so many, or 65,536.
+pub fn write(sheet: &Sheet, room: usize) -> Reply<Vec<u8>> {
+    let counts = [sheet.names.len(), sheet.nodes.len(), sheet.root as usize];
+    let mut bytes: Vec<u8> = Vec::new();
+    for count in counts {
+        bytes.extend((count as u16).to_be_bytes());
+    }
+    for name in &sheet.names {
+        bytes.push(name.len() as u8);
+        bytes.extend(name.bytes());
+    }
+    for node in &sheet.nodes {
+        bytes.extend(node.encode().into_iter().flat_map(u32::to_be_bytes));
+    }
+    if bytes.len() > room.min(TEXT) {
+        return Err(9);
+    }
+    Ok(bytes)
+}
+
 /// The line of a sheet without its last byte. `left_out` is set if the unchanged Rust was left out.
 pub fn line(sheet: &[u8], left_out: &mut bool) -> Reply<String> {
     let Sheet { names, nodes, root } = read(sheet)?;
@@ -143,6 +164,16 @@ mod tests {
         assert_eq!(unchanged_line(&bytes(sheet)).unwrap(), "1 int");
         assert_eq!(answer(&format!("{sheet} 00")), Err(10));
         assert_eq!(answer(&sheet[..sheet.len() - 2]), Err(10));
+    }
+
+    #[test]
+    fn written_again() {
+        let hex = "000200020001 0170 027172 30000001 ffffffff 68000001 80800000";
+        let (bytes, sheet) = (bytes(hex), read(&bytes(hex)).unwrap());
+        assert_eq!(sheet.names, ["p", "qr"]);
+        assert_eq!(write(&sheet, 65_537), Ok(bytes.clone()));
+        assert_eq!(write(&sheet, bytes.len()), Ok(bytes.clone()));
+        assert_eq!(write(&sheet, bytes.len() - 1), Err(9));
     }
 
     #[test]

@@ -1,5 +1,7 @@
 //! The name table.
 
+use std::ops::Range;
+
 use crate::Reply;
 
 /// Most names of a table, and most bytes of a name.
@@ -19,6 +21,17 @@ pub fn check(mut bytes: &[u8]) -> Reply<Vec<String>> {
         bytes = rest;
     }
     Ok(names)
+}
+
+/// Where the text of a name lies in the table; 1, or 4 for a number that it hasn't. A name begins behind a length byte for
+/// each name up to it and the texts before.
+pub fn place(bytes: &[u8], number: u32) -> Reply<Range<usize>> {
+    let names = check(bytes)?;
+    let number = number as usize;
+    let length = names.get(number).ok_or(4)?.len();
+    let before: usize = names[..number].iter().map(String::len).sum();
+    let start = number + 1 + before;
+    Ok(start..start + length)
 }
 
 pub fn length_fits(length: usize) -> bool {
@@ -59,6 +72,18 @@ mod tests {
         let long = |n: usize| [vec![n as u8], vec![b'x'; n]].concat();
         assert!(check(&long(64)).is_ok());
         assert_eq!(check(&long(65)), Err(1));
+    }
+
+    #[test]
+    fn places() {
+        let table = b"\x01a\x02ab\x01b";
+        assert_eq!(place(table, 0), Ok(1..2));
+        assert_eq!(place(table, 1), Ok(3..5));
+        assert_eq!(place(table, 2), Ok(6..7));
+        for number in [3, 256, u32::MAX] {
+            assert_eq!(place(table, number), Err(4));
+            assert_eq!(place(b"\x02a", number), Err(1), "before 4");
+        }
     }
 
     #[test]

@@ -1,24 +1,25 @@
 -- What `intern` answers and leaves on each of its ways is what `intern-reply` says; what follows from that for a host.
 use Prim.Native.Nat.{ℕ}
 use mathlib.Core.Path.{_≡_, refl, sym, ap, _∙_, subst}
-use mathlib.Core.Bool.{true}
 use mathlib.Core.List.{List}
 use mathlib.Core.Option.{some}
 use native.Mathlib.Omega.{arith}
 use lib.ListN.{length}
 use Rattle.types.specs.Out.{Out, ok, refuse, number, _>>=_}
-use Rattle.types.specs.Node.{Node, encode, decode, well, IsNode}
+use Rattle.types.specs.Node.{Node, encode, decode, IsNode}
 use Rattle.types.specs.Arena.{Arena}
 use Rattle.types.specs.Memory.{Holds}
-use Rattle.types.specs.Reply.{Reply, reply, reply-of, tabled, judged}
+use Rattle.types.specs.Reply.{reply, reply-of, tabled, judged}
 use Rattle.types.specs.declared.Counters.{Counters}
 use Rattle.types.proofs.Decodes.{decode-ok, faulty}
 use Rattle.types.proofs.Replies.{tabled-yes, judged-yes}
 use Rattle.names.specs.Table.{Name, names-of}
-use Rattle.node_store.specs.Added.{Interns, Under}
+use Rattle.node_store.specs.Inner.Added.{Interns, Under}
 use Rattle.node_store.specs.Intern.{intern, left}
-use Rattle.soundness.specs.Sound.{lent-reply, judged-out}
-use Rattle.arena.specs.Intern.{interning, intern-reply, InternsWords}
+use Rattle.soundness.specs.Inner.Sound.{lent-reply, judged-out}
+use Rattle.arena.specs.Intern.{interning, intern-reply}
+use Rattle.arena.specs.Inner.{InternsWords}
+use Rattle.arena.specs.Theorems.{answered, InternWordsIs, RefusedUnchanged}
 use Rattle.node_store.specs.declared.added.Interned.{Interned}
 use Rattle.node_store.specs.declared.added.Interned.the-variants as interned
 use Rattle.soundness.specs.declared.Judged.{Judged}
@@ -80,18 +81,13 @@ module _ (t w s : List ℕ) (c : Counters) (ws : List ℕ) where
 
 -- ---- what a host may rely on
 -- interning the words of a node that may stand there is the definition's `intern`
-pub intern-words-is : (t w s : List ℕ) (c : Counters) (ns : List Name) (a : Arena) (x : Node) → names-of t ≡ some ns → Holds (length ns) w s c a → well (length ns) (length a) x ≡ true
-    → intern-reply t w s c (encode x) ≡ reply-of w s c (intern (length w) (length s) x a)
+pub intern-words-is : InternWordsIs
 intern-words-is t w s c ns a x e H g =
     after-2 t w s c (encode x) ns e a H
     ∙ ap (reply-of w s c) (interning-is (length w) (length s) (encode x) (length ns) a x (record { words = refl; good = g }))
 
--- the answer of a reply
-abbrev pub answered : Reply ℕ → Out ℕ
-answered (reply o c w s) = o
-
 -- a refused call leaves counters, words and starts as they were
-pub refused-unchanged : (t w s : List ℕ) (c : Counters) (ws : List ℕ) (e : ℕ) → answered (intern-reply t w s c ws) ≡ refuse e → intern-reply t w s c ws ≡ reply (refuse e) c w s
+pub refused-unchanged : RefusedUnchanged
 unfolding intern-reply
 refused-unchanged t w s c ws e = go (tabled (names-of t) (λ (ns : List Name). judged (length ns) w s c (interning (length w) (length s) ws (length ns))))
   where

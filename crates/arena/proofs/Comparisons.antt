@@ -11,9 +11,10 @@ use Rattle.types.specs.declared.Ordering.{Ordering}
 use Rattle.types.proofs.Replies.{rooted-no, rooted-yes}
 use Rattle.names.specs.Table.{Name}
 use Rattle.node_order.specs.NodeOrder.{node-order}
-use Rattle.node_store.specs.Stored.{Ordered}
-use Rattle.soundness.specs.Sound.{lent-reply, judged-out}
-use Rattle.arena.specs.Compare.{comparing, compare-reply, compared-out, ComparesIn}
+use Rattle.node_store.specs.Inner.Stored.{Ordered}
+use Rattle.soundness.specs.Inner.Sound.{lent-reply, judged-out}
+use Rattle.arena.specs.Compare.{comparing, compare-reply, compared-out}
+use Rattle.arena.specs.Inner.{ComparesIn}
 use Rattle.arena.specs.declared.Compared.{Compared}
 use Rattle.arena.specs.declared.Compared.the-variants as compared
 use Rattle.soundness.specs.declared.Judged.{Judged}

@@ -1,25 +1,19 @@
--- A host that interns the same words again gets the same number, and nothing changes; every old node keeps its words and its number.
+-- A host that interns the same words again gets the same number, and nothing changes.
 use Prim.Native.Nat.{ℕ, _≤_}
 use mathlib.Core.Path.{_≡_, ap, _∙_}
 use mathlib.Core.Bool.{true}
-use mathlib.Core.List.{List}
-use mathlib.Core.Option.{some}
 use lib.ListN.{length}
 use Rattle.types.specs.Out.{ok}
-use Rattle.types.specs.Node.{Node, node, encode, well, linked, below, names}
-use Rattle.types.specs.Arena.{Arena}
-use Rattle.types.specs.Memory.{flat, heads, words-of, starts-of, counters-of, Holds}
+use Rattle.types.specs.Node.{Node, node, well, linked, below, names}
+use Rattle.types.specs.Memory.{flat, heads, words-of, starts-of, counters-of}
 use Rattle.types.specs.Reply.{reply, reply-of}
-use Rattle.types.specs.declared.Counters.{Counters}
 use Rattle.types.proofs.Tests.{and-true, both}
 use Rattle.types.proofs.Lists.{below-more, length-padded}
 use Rattle.types.proofs.Decodes.{well-parts, parts-well}
 use Rattle.types.proofs.Growth.{ext-length}
-use Rattle.types.proofs.Addresses.{Begins, ext-flat, ext-heads}
-use Rattle.names.specs.Table.{Name, names-of}
 use Rattle.node_store.specs.Intern.{intern}
-use Rattle.arena.specs.Intern.{intern-reply}
-use Rattle.node_store.proofs.Interning.{Done, done, done-ext, done-again, done-room, done-holds}
+use Rattle.arena.specs.Theorems.{InternTwice}
+use Rattle.node_store.proofs.Interning.{done, done-ext, done-again, done-room, done-holds}
 use Rattle.arena.proofs.Answers.{intern-words-is}
 
 -- a node that may stand in an arena may stand in a grown one
@@ -34,18 +28,8 @@ well-more table n m x l e =
     let W = well-parts table n x e in
     parts-well table m x (record { formed-so = W .formed-so; linked-so = linked-more table n m x l (W .linked-so); rising-so = W .rising-so })
 
--- old nodes keep their words and their places
-pub done-words : {lw ls : ℕ} {x : Node} {a : Arena} {n : ℕ} {b : Arena} → Done lw ls x a n b → Begins (flat b) (flat a)
-done-words D = ext-flat (done-ext D)
-
-pub done-starts : {lw ls : ℕ} {x : Node} {a : Arena} {n : ℕ} {b : Arena} → Done lw ls x a n b → Begins (heads b) (heads a)
-done-starts D = ext-heads (done-ext D)
-
 -- the second call
-pub intern-twice : (t w s : List ℕ) (c : Counters) (ns : List Name) (a : Arena) (x : Node) (n : ℕ) (b : Arena) → names-of t ≡ some ns → Holds (length ns) w s c a → well (length ns) (length a) x ≡ true
-    → intern (length w) (length s) x a ≡ ok (n, b)
-    → (intern-reply t w s c (encode x) ≡ reply (ok n) (counters-of b) (words-of (length w) b) (starts-of (length s) b))
-    × (intern-reply t (words-of (length w) b) (starts-of (length s) b) (counters-of b) (encode x) ≡ reply (ok n) (counters-of b) (words-of (length w) b) (starts-of (length s) b))
+pub intern-twice : InternTwice
 unfolding reply-of
 intern-twice t w s c ns a x n b e H g i =
     let D = done (length w) (length s) x a n b i in
@@ -54,9 +38,10 @@ intern-twice t w s c ns a x n b e H g i =
     let k = length-padded (length w) (flat b) (r .0) in
     let l = length-padded (length s) (heads b) (r .1) in
     let again : intern (length (words-of (length w) b)) (length (starts-of (length s) b)) x b ≡ ok (n, b)
-    = (λ j. intern (k j) (l j) x b) ∙ done-again (length ns) (H .good) g D in (
-      intern-words-is t w s c ns a x e H g ∙ ap (reply-of w s c) i,
-      intern-words-is t (words-of (length w) b) (starts-of (length s) b) (counters-of b) ns b x e K (well-more (length ns) (length a) (length b) x (ext-length a b (done-ext D)) g)
+    = (λ j. intern (k j) (l j) x b) ∙ done-again (length ns) (H .good) g D in
+    record {
+      first = intern-words-is t w s c ns a x e H g ∙ ap (reply-of w s c) i;
+      second = intern-words-is t (words-of (length w) b) (starts-of (length s) b) (counters-of b) ns b x e K (well-more (length ns) (length a) (length b) x (ext-length a b (done-ext D)) g)
           ∙ ap (reply-of (words-of (length w) b) (starts-of (length s) b) (counters-of b)) again
-          ∙ (λ j. reply (ok n) (counters-of b) (words-of (k j) b) (starts-of (l j) b)),
-    )
+          ∙ (λ j. reply (ok n) (counters-of b) (words-of (k j) b) (starts-of (l j) b));
+    }

@@ -1,11 +1,9 @@
 -- What `compare` answers (01, "primitive, arc_ty" and "Who can cause which number").
 use Prim.Native.Nat.{ℕ}
-use mathlib.Core.Path.{_≡_}
 use mathlib.Core.List.{List}
 use lib.ListN.{length}
 use Rattle.types.specs.Out.{Out, ok, refuse}
 use Rattle.types.specs.Arena.{Arena, at}
-use Rattle.types.specs.Memory.{Holds}
 use Rattle.types.specs.Reply.{tabled, judged, rooted}
 use Rattle.types.specs.declared.Counters.{Counters}
 use Rattle.types.specs.declared.Ordering.{Ordering}
@@ -28,7 +26,3 @@ compare-reply t w s c m n = tabled (names-of t) (λ (ns : List Name). judged (le
 abbrev pub compared-out : Compared → Out Ordering
 compared-out (compared.Stand o) = ok o
 compared-out (compared.Refused e) = refuse e
-
--- the answer in memory that holds some arena
-pub record ComparesIn (w s : List ℕ) (c : Counters) (m n : ℕ) (r : Compared) : Type 0 where
-  pub is : (table : ℕ) (a : Arena) → Holds table w s c a → compared-out r ≡ comparing m n a

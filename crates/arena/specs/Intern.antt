@@ -1,17 +1,14 @@
 -- What `intern` answers and leaves (01, "arena" and "Who can cause which number").
 use Prim.Native.Nat.{ℕ}
-use mathlib.Core.Path.{_≡_}
 use mathlib.Core.List.{List}
 use lib.ListN.{length}
 use Rattle.types.specs.Out.{Out, _>>=_}
 use Rattle.types.specs.Node.{decode}
 use Rattle.types.specs.Arena.{Arena}
-use Rattle.types.specs.Memory.{Holds}
 use Rattle.types.specs.Reply.{Reply, reply-of, tabled, judged}
 use Rattle.types.specs.declared.Counters.{Counters}
 use Rattle.names.specs.Table.{Name, names-of}
-use Rattle.node_store.specs.Intern.{intern, left}
-use Rattle.node_store.specs.declared.added.Interned.{Interned}
+use Rattle.node_store.specs.Intern.{intern}
 
 -- first the node's own faults, 3, 4, 5
 unfoldable pub interning : ℕ → ℕ → List ℕ → ℕ → Arena → Out (ℕ × Arena)
@@ -23,7 +20,3 @@ unfoldable pub intern-reply : List ℕ → List ℕ → List ℕ → Counters �
 unfolding reply-of tabled names-of judged interning
 intern-reply t w s c ws =
     reply-of w s c (tabled (names-of t) (λ (ns : List Name). judged (length ns) w s c (interning (length w) (length s) ws (length ns))))
-
--- the answer for any words, and memory after, are the definition's
-pub record InternsWords (table : ℕ) (w s : List ℕ) (c : Counters) (ws w′ s′ : List ℕ) (r : Interned) : Type 0 where
-  pub is : (a : Arena) → Holds table w s c a → left c r w′ s′ ≡ reply-of w s c (interning (length w) (length s) ws table a)

@@ -1,2 +1,4 @@
 pub mod Intern
 pub mod Compare
+pub mod Theorems
+pub mod Inner

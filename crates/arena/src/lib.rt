@@ -9,11 +9,13 @@ use types::Counters;
 use types::Ordering;
 use types::arc_ty::wide;
 ghost use mathlib.Core.Path.{_≡_};
-ghost use Rattle.arena.specs.Intern.{intern-reply, InternsWords};
-ghost use Rattle.arena.specs.Compare.{compare-reply, compared-out, ComparesIn};
-ghost use Rattle.node_store.specs.Stored.{Lent};
+ghost use Rattle.arena.specs.Intern.{intern-reply};
+ghost use Rattle.arena.specs.Inner.{InternsWords};
+ghost use Rattle.arena.specs.Compare.{compare-reply, compared-out};
+ghost use Rattle.arena.specs.Inner.{ComparesIn};
+ghost use Rattle.node_store.specs.Inner.Stored.{Lent};
 ghost use Rattle.node_store.specs.Intern.{left};
-ghost use Rattle.node_store.specs.Added.{Under};
+ghost use Rattle.node_store.specs.Inner.Added.{Under};
 
 // The number of the node with the words of `node`, if they have no fault, in an arena that is known to be sound.
 fn intern_words(

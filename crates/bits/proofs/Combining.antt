@@ -1,6 +1,6 @@
 -- Two sets combined word by word, by either operation.
-use Prim.Native.Nat.{ℕ, _+_, _/_, _%_, _≤_, _<_}
-use mathlib.Core.Path.{_≡_, ap, _∙_}
+use Prim.Native.Nat.{ℕ, _+_, _*_, _/_, _%_, _≤_, _<_}
+use mathlib.Core.Path.{_≡_, ap, _∙_, subst}
 use mathlib.Core.Bool.{Bool, true, false}
 use mathlib.Core.List.{List}
 use native.Mathlib.Decide.{ℕ-discrete}
@@ -9,6 +9,7 @@ use lib.ListN.{length, getD, set, replicate, length-set, length-replicate, List�
 use lib.Seq.{getD-set-same, getD-set-other}
 use lib.Bits.{bitOr, bitXor}
 use Rattle.bits.specs.Bits.{bit, has, Combined, either, either-word}
+use Rattle.bits.specs.Theorems.{CombinedRow}
 use Rattle.bits.proofs.Halves.{bit-either, zero-bit}
 
 -- ---- two words, as the flag says
@@ -17,6 +18,14 @@ word-exclusive x y q = rw q
 
 pub word-inclusive : (x y : ℕ) {e : Bool} → e ≡ false → bitOr x y ≡ either-word e x y
 word-inclusive x y q = rw q
+
+-- ---- rows of any length
+pub combined-row : CombinedRow
+unfolding has
+combined-row e s t r each = record {
+  is = λ n l. ap (λ (x : ℕ). bit x (n % 64)) (each (n / 64) (omega arith)) ∙ bit-either e (getD s (n / 64) 0) (getD t (n / 64) 0) (n % 64);
+  beyond = λ n l. ap (λ (x : ℕ). bit x (n % 64)) (List·getD-eq-default r 0 (omega arith)) ∙ zero-bit (n % 64);
+}
 
 -- ---- the words passed are combined
 pub record Combining (e : Bool) (s t r : List ℕ) (i : ℕ) : Type 0 where
@@ -39,9 +48,7 @@ module _ {e : Bool} {s t r : List ℕ} {i : ℕ} (C : Combining e s t r i) where
       go j l (yes p) = rw p (getD-set-same r i x 0 (omega (arith, C .long)) ∙ q)
       go j l (no f) = getD-set-other r i j x 0 f ∙ C .each j (omega arith)
 
-  pub combining-done : 64 ≤ i → Combined (either e) s t r
-  unfolding has
-  combining-done h = record {
-    is = λ n l. ap (λ (x : ℕ). bit x (n % 64)) (C .each (n / 64) (omega arith)) ∙ bit-either e (getD s (n / 64) 0) (getD t (n / 64) 0) (n % 64);
-    beyond = λ n l. ap (λ (x : ℕ). bit x (n % 64)) (List·getD-eq-default r 0 (omega (arith, C .long))) ∙ zero-bit (n % 64);
-  }
+  pub combining-done : 64 ≤ i → Combined (either e) 4096 s t r
+  combining-done h =
+      let size : length r * 64 ≡ 4096 = omega (arith, C .long) in
+      subst (λ (k : ℕ). Combined (either e) k s t r) size (combined-row e s t r (λ j l. C .each j (omega (arith, C .long))))

@@ -1,5 +1,5 @@
 -- Rows of words of any length: what setting one bit does to the set, and the count of its numbers.
-use Prim.Native.Nat.{ℕ, zero, suc, _+_, _*_, _/_, _%_, _^_, _<_}
+use Prim.Native.Nat.{ℕ, zero, suc, _+_, _*_, _/_, _%_, _^_, _≤_, _<_}
 use mathlib.Core.Path.{_≡_, refl, sym, ap, _∙_}
 use mathlib.Core.Bool.{Bool, true, false}
 use mathlib.Core.List.{List}
@@ -12,7 +12,8 @@ use lib.Bits.{bitOr}
 use lib.Count.{ones, ones-step}
 use lib.Dec.{eqb}
 use borrow.Author.Tests.{eqb-true, eqb-false}
-use Rattle.bits.specs.Bits.{bit, has, Put, count-below}
+use Rattle.bits.specs.Bits.{bit, has, count-below}
+use Rattle.bits.specs.Theorems.{PutWord, CountRow, CountRows, sum-ones}
 use Rattle.bits.proofs.Halves.{or-same, or-other, zero-bit}
 
 -- ---- one more number
@@ -37,9 +38,9 @@ module _ (s : List ℕ) (n : ℕ) (h : n / 64 < length s) where
           ∙ ap (λ (i : ℕ). bit (getD s i 0) (k % 64)) (sym e)
       go (no q) = ap (λ (x : ℕ). bit x (k % 64)) (getD-set-other s (n / 64) (k / 64) word 0 q)
 
-  pub put-word : Put s n (set s (n / 64) (bitOr (getD s (n / 64) 0) (2 ^ (n % 64))))
-  unfolding word
-  put-word = record { long = length-set s (n / 64) word; new = with-new; old = with-old }
+pub put-word : PutWord
+unfolding word
+put-word s n h = record { long = length-set s (n / 64) (word s n h); new = with-new s n h; old = with-old s n h }
 
 -- ---- the empty set
 zero-at : (k i : ℕ) → _≡_ {A = ℕ} (getD (replicate k 0) i 0) 0
@@ -80,7 +81,7 @@ count-word f (suc d) x n g h =
     ap (count-below f) m ∙ omega (arith, ones-step x)
 
 -- the numbers of one more word of a row
-pub count-row : (s : List ℕ) (i : ℕ) → getD s i 0 < 2 ^ 64 → count-below (has s) ((i + 1) * 64) ≡ count-below (has s) (i * 64) + ones (getD s i 0)
+pub count-row : CountRow
 unfolding has
 count-row s i h =
     let e : (i + 1) * 64 ≡ i * 64 + 64 = omega arith in
@@ -96,3 +97,15 @@ pub count-same : (f g : ℕ → Bool) (n : ℕ) → ((m : ℕ) → m < n → f m
 unfolding count-below
 count-same f g zero h = refl
 count-same f g (suc n) h = let r = count-same f g n (λ m l. h m (omega arith)) in λ k. elim (h n (omega arith) k) as (λ _. ℕ) [ true ↦ suc (r k) | false ↦ r k ]
+
+-- the same of a whole row
+pub count-rows : CountRows
+unfolding count-below sum-ones
+count-rows s words = go (length s) (omega arith)
+  where
+    go : (k : ℕ) → k ≤ length s → count-below (has s) (k * 64) ≡ sum-ones s k
+    go zero h = refl
+    go (suc k) h =
+        let next : suc k * 64 ≡ (k + 1) * 64 = omega arith in
+        let rest = go k (omega arith) in
+        ap (count-below (has s)) next ∙ count-row s k (words k (omega arith)) ∙ ap (λ (n : ℕ). n + ones (getD s k 0)) rest

@@ -6,12 +6,13 @@ use native.Mathlib.Omega.{arith}
 use lib.ListN.{length, getD, set}
 use lib.Bits.{bitOr}
 use lib.Count.{ones, ones-le}
-use lib.Dec.{eqb}
-use Rattle.bits.specs.Bits.{has, Put, count-below, Ones}
+use Rattle.bits.specs.Bits.{has, Put, count-below}
+use Rattle.bits.specs.Inner.{Ones}
+use Rattle.bits.specs.Theorems.{Tested}
 use Rattle.bits.proofs.Halves.{bit-shift, one-shifted}
 use Rattle.bits.proofs.Sets.{put-word, count-row}
 
-pub tested : (s : List ℕ) (n : ℕ) → eqb (getD s (n / 64) 0 / 2 ^ (n % 64) % 2) 1 ≡ has s n
+pub tested : Tested
 unfolding has
 tested s n = bit-shift (getD s (n / 64) 0) (n % 64)
 

@@ -1,11 +1,10 @@
 -- Sets of numbers, one bit a number in words of 64 bits (01, "Forms of the Rust that can't be kept": visited sets).
-use Prim.Native.Nat.{ℕ, zero, suc, _/_, _%_, _^_, _≤_, _<_}
+use Prim.Native.Nat.{ℕ, zero, suc, _/_, _%_, _≤_, _<_}
 use mathlib.Core.Path.{_≡_}
 use mathlib.Core.Bool.{Bool, true, false, _||_, xor}
 use mathlib.Core.List.{List}
 use lib.ListN.{length, getD}
 use lib.Bits.{bitOr, bitXor}
-use lib.Count.{ones}
 use lib.Dec.{eqb}
 
 -- bit b of x, by halving
@@ -18,29 +17,16 @@ unfoldable pub has : List ℕ → ℕ → Bool
 unfolding bit
 has s n = bit (getD s (n / 64) 0) (n % 64)
 
--- s has room for n: a reference to an array doesn't say the length of its list
-pub record Row (s : List ℕ) (n : ℕ) : Type 0 where
-  pub long : length s ≡ 64
-  pub inside : n < 4096
-
 -- t is the set s with n in it
 pub record Put (s : List ℕ) (n : ℕ) (t : List ℕ) : Type 0 where
   pub long : length t ≡ length s
   pub new : has t n ≡ true
   pub old : (m : ℕ) → (m ≡ n → ⊥) → has t m ≡ has s m
 
--- r has those numbers of which f says yes, told whether s has them and whether t does
-pub record Combined (f : Bool → Bool → Bool) (s t r : List ℕ) : Type 0 where
-  pub is : (n : ℕ) → n < 4096 → has r n ≡ f (has s n) (has t n)
-  pub beyond : (n : ℕ) → 4096 ≤ n → has r n ≡ false
-
--- the numbers of either set
-abbrev pub Union : List ℕ → List ℕ → List ℕ → Type 0
-Union = Combined _||_
-
--- the numbers of one set only
-abbrev pub SymmetricDifference : List ℕ → List ℕ → List ℕ → Type 0
-SymmetricDifference = Combined xor
+-- r has those numbers below `size` of which f says yes, told whether s has them and whether t does
+pub record Combined (f : Bool → Bool → Bool) (size : ℕ) (s t r : List ℕ) : Type 0 where
+  pub is : (n : ℕ) → n < size → has r n ≡ f (has s n) (has t n)
+  pub beyond : (n : ℕ) → size ≤ n → has r n ≡ false
 
 -- by a flag: is one of two true, or if the flag is set, one only?
 abbrev pub either : Bool → Bool → Bool → Bool
@@ -56,9 +42,3 @@ either-word true = bitXor
 unfoldable pub count-below : (ℕ → Bool) → ℕ → ℕ
 count-below f zero = 0
 count-below f (suc n) = elim (f n) [ true ↦ suc (count-below f n) | false ↦ count-below f n ]
-
--- r is how many ones the word x has
-pub record Ones (x r : ℕ) : Type 0 where
-  pub is : r ≡ ones x
-  pub few : r ≤ 64
-  pub word : x < 2 ^ 64

@@ -2,7 +2,8 @@
 ghost use Prim.Native.Nat.{_/_, _<_};
 ghost use mathlib.Core.Path.{_≡_};
 ghost use lib.ListN.{length};
-ghost use Rattle.bits.specs.Bits.{has, Row, Put, Combined, Union, SymmetricDifference, either, either-word, count-below, Ones};
+ghost use Rattle.bits.specs.Bits.{has, Put, Combined, either, either-word, count-below};
+ghost use Rattle.bits.specs.Inner.{Row, Union, SymmetricDifference, Ones};
 
 // Whether n is in the set of a row.
 pub fn test_row(row: &[u64], n: u32) -> bool
@@ -74,7 +75,7 @@ fn combine_words(x: u64, y: u64, exclusive: bool) -> u64
 
 // The numbers of either set, or if `exclusive` those of one set only.
 fn combine(s: &[u64; 64], t: &[u64; 64], exclusive: bool) -> [u64; 64]
-    ensures { λ r. ⌜ Combined (either exclusive) (now (s .entry)) (now (t .entry)) r ⌝ }
+    ensures { λ r. ⌜ Combined (either exclusive) 4096 (now (s .entry)) (now (t .entry)) r ⌝ }
 {
     let mut r = [0u64; 64];
     let mut i = 0;

@@ -10,13 +10,13 @@ use Rattle.types.specs.Reply.{reply-of}
 use Rattle.types.specs.declared.Counters.{Counters}
 use Rattle.node_store.specs.declared.added.Interned.{Interned}
 use Rattle.node_store.specs.declared.added.Interned.the-variants as interned
-use Rattle.recursion.specs.Work.{Leads, Ready, Does, TakesBack}
+use Rattle.recursion.specs.Inner.Work.{Leads, Ready, Does, TakesBack}
 use Rattle.recursion.proofs.Leading.{leads-done, leads-stop}
 use Rattle.recursion.proofs.Remembering.{cache-none}
 use Rattle.copying.specs.Copy.{copy}
-use Rattle.copying.specs.Copied.{Source}
+use Rattle.copying.specs.Inner.{Source}
 use Rattle.compact.specs.Compact.{cleared, empty, compacted, left}
-use Rattle.compact.specs.Cleared.{ClearReady, CompactsCleared}
+use Rattle.compact.specs.Inner.{ClearReady, CompactsCleared}
 use Rattle.compact.specs.declared.Copied.the-variants as copied
 
 abbrev zeros : ℕ → List ℕ

@@ -15,13 +15,13 @@ use Rattle.types.proofs.Tests.{true-false}
 use Rattle.types.proofs.Memories.{unique}
 use Rattle.types.proofs.Replies.{rooted-no, rooted-yes}
 use Rattle.names.specs.Table.{Name}
-use Rattle.node_store.specs.Stored.{Lent}
-use Rattle.soundness.specs.Sound.{lent-reply, judged-out}
+use Rattle.node_store.specs.Inner.Stored.{Lent}
+use Rattle.soundness.specs.Inner.Sound.{lent-reply, judged-out}
 use Rattle.soundness.specs.declared.Judged.{Judged}
 use Rattle.soundness.specs.declared.Judged.the-variants as verdict
 use Rattle.soundness.proofs.Verdicts.{lent-names, lent-refused, lent-done}
 use Rattle.compact.specs.Compact.{over-limit, limited, source, compacted, compact-reply, left}
-use Rattle.compact.specs.Cleared.{ClearReady, CompactsCleared, CompactsLent}
+use Rattle.compact.specs.Inner.{ClearReady, CompactsCleared, CompactsLent}
 use Rattle.compact.specs.declared.Copied.the-variants as copied
 use Rattle.compact.specs.declared.Compacted.{Compacted}
 

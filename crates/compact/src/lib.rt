@@ -1,15 +1,15 @@
 // `compact`: the type of a root is copied into an arena that has no other node.
 use copying::compact_inner;
 use node_store::added::Interned;
-use recursion::take_back;
+use recursion::take_back_nodes;
 use soundness::Judged;
 use soundness::judge;
 use types::Counters;
 use types::arc_ty::wide;
 ghost use mathlib.Core.Path.{_≡_};
-ghost use Rattle.node_store.specs.Stored.{Lent};
+ghost use Rattle.node_store.specs.Inner.Stored.{Lent};
 ghost use Rattle.compact.specs.Compact.{compact-reply, left};
-ghost use Rattle.compact.specs.Cleared.{ClearReady, CompactsCleared, CompactsLent};
+ghost use Rattle.compact.specs.Inner.{ClearReady, CompactsCleared, CompactsLent};
 
 // The root's number in the target, or the number of a refusal.
 pub enum Copied {
@@ -36,9 +36,8 @@ fn compact_cleared(
     ensures { λ r. ⌜ CompactsCleared (now (words .entry)) (now (starts .entry)) c root (now («target_words» .entry))
         (now («target_starts» .entry)) (now («target_words» .exit)) (now («target_starts» .exit)) r ⌝ }
 {
-    take_back(target_words, 0);
-    take_back(target_starts, 0);
     let counters = Counters { nodes: 0, words: 0 };
+    take_back_nodes(target_words, target_starts, counters);
     let mut cache = [0u32; 4096];
     let r = compact_inner(
         words,
@@ -50,20 +49,15 @@ fn compact_cleared(
         counters,
         &mut cache,
     );
-    match r {
-        Interned::Node(n, d) => {
-            let answer = Copied::Root(n);
-            Compacted {
-                answer,
-                counters: d,
-            }
-        }
-        Interned::Refused(number) => {
-            take_back(target_words, 0);
-            take_back(target_starts, 0);
-            let answer = Copied::Refused(number);
-            Compacted { answer, counters }
-        }
+    let Interned::Node(n, d) = r else {
+        take_back_nodes(target_words, target_starts, counters);
+        let answer = Copied::Refused(r.refusal());
+        return Compacted { answer, counters };
+    };
+    let answer = Copied::Root(n);
+    Compacted {
+        answer,
+        counters: d,
     }
 }
 

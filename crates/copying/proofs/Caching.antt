@@ -11,10 +11,11 @@ use Rattle.types.specs.Arena.{Arena, sound, Ext, here, more}
 use Rattle.types.specs.declared.Counters.{Counters}
 use Rattle.types.proofs.Addresses.{start-room}
 use Rattle.recursion.specs.Jobs.{Job, rebuild}
-use Rattle.recursion.proofs.Steady.{Steady, There, steady-later, rebuild-steady, step-well, step-child, rec-steady}
+use Rattle.recursion.specs.Theorems.{Steady, There}
+use Rattle.recursion.proofs.Steady.{steady-later, rebuild-steady, step-well, step-child, rec-steady}
 use Rattle.recursion.proofs.Leading.{Lawful}
 use Rattle.copying.specs.Copy.{copy}
-use Rattle.copying.specs.Copied.{Source}
+use Rattle.copying.specs.Inner.{Source}
 
 -- every arena grew from the empty one
 pub ext-empty : (a : Arena) → Ext [] a

@@ -14,11 +14,7 @@ use Rattle.types.specs.Places.{child-sign, Place, self, down}
 use Rattle.types.proofs.Growth.{ext-length, ext-at}
 use Rattle.types.proofs.Sound.{child-lower, fold-at, at-find}
 use Rattle.recursion.proofs.Interning.{node-is, At}
-
--- node m of b is a copy of node n of u
-pub data CopyOf (u b : Arena) : ℕ → ℕ → Type 0 where
-  copied : {n m : ℕ} → n < length u → m < length b → tag (at b m) ≡ tag (at u n) → length (children (at b m)) ≡ length (children (at u n))
-      → ((i : ℕ) → i < length (children (at u n)) → CopyOf u b (getD (children (at u n)) i 0) (getD (children (at b m)) i 0)) → CopyOf u b n m
+use Rattle.copying.specs.Theorems.{CopyOf, copied, CopyAt}
 
 pub copy-inside : {u b : Arena} {n m : ℕ} → CopyOf u b n m → m < length b
 copy-inside (copied k l t q f) = l
@@ -77,12 +73,6 @@ module _ {ℓ} {Y : Type ℓ} where
         fold-at value table b h m l ∙ (λ i. value (t i) (r i)) ∙ sym (fold-at value table u g n k)
 
 -- ---- places
--- a copy of c has a place below m
-pub record CopyAt (u b : Arena) (m : ℕ) (s : Polarity) (c : ℕ) (p : Polarity) : Type 0 where
-  pub number : ℕ
-  pub place : Place b m s number p
-  pub copy : CopyOf u b c number
-
 pub copy-place : {u b : Arena} {n m c : ℕ} {s p : Polarity} → CopyOf u b n m → Place u n s c p → CopyAt u b m s c p
 copy-place {m = m} C self = record { number = m; place = self; copy = C }
 copy-place {b = b} {c = c} {s = s} {p = p} (copied {n = n} {m = m} k l t q f) (down i j r) =

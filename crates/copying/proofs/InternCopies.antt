@@ -17,14 +17,14 @@ use Rattle.types.proofs.Lists.{below-more}
 use Rattle.types.proofs.Nodes.{nil, formed-parts}
 use Rattle.types.proofs.Sound.{at-well, at-formed}
 use Rattle.types.proofs.Addresses.{start-room}
-use Rattle.node_store.specs.Stored.{InRange, NodeAt}
-use Rattle.node_store.specs.Added.{Fresh, Interns}
+use Rattle.node_store.specs.Inner.Stored.{InRange, NodeAt}
+use Rattle.node_store.specs.Inner.Added.{Fresh, Interns}
 use Rattle.node_store.specs.declared.added.Interned.{Interned}
 use Rattle.recursion.proofs.Interning.{node-is, well-again}
-use Rattle.rebuilding.specs.Rebuilt.{AsMany, Exchanging, Exchanged}
+use Rattle.rebuilding.specs.Inner.Rebuilt.{AsMany, Exchanging, Exchanged}
 use Rattle.rebuilding.proofs.Copying.{children-read, few-read}
 use Rattle.rebuilding.proofs.Exchanging.{length-given, exchanged-encode}
-use Rattle.copying.specs.Copied.{CopyReady, Copies}
+use Rattle.copying.specs.Inner.{CopyReady, Copies}
 
 module _ {w s : List ℕ} {c : Counters} {n : ℕ} {items : List ℕ} {count : ℕ} {tw ts : List ℕ} {d : Counters} (R : CopyReady w s c n items count tw ts d) where
   copy-range : InRange w s c n

@@ -8,18 +8,18 @@ use lib.Seq.{length-take-le}
 use Rattle.types.specs.Node.{below}
 use Rattle.types.specs.declared.Counters.{Counters}
 use Rattle.types.proofs.Sound.{children-below}
-use Rattle.node_store.specs.Stored.{InRange}
+use Rattle.node_store.specs.Inner.Stored.{InRange}
 use Rattle.node_store.specs.declared.added.Interned.{Interned}
 use Rattle.node_store.specs.declared.added.Interned.the-variants as interned
-use Rattle.recursion.specs.Work.{Ready, Does, EachReady, DoesEach}
+use Rattle.recursion.specs.Inner.Work.{Ready, Does, EachReady, DoesEach}
 use Rattle.recursion.specs.declared.Run.{Run}
 use Rattle.recursion.specs.declared.Run.the-variants as run
 use Rattle.recursion.proofs.Leading.{each-done}
 use Rattle.recursion.proofs.Nodes.{Rebuilt, node-refused, node-done}
-use Rattle.rebuilding.specs.Children.{AllChildren}
+use Rattle.rebuilding.specs.Inner.Children.{AllChildren}
 use Rattle.rebuilding.specs.declared.children.Children.{Children}
 use Rattle.copying.specs.Copy.{copy}
-use Rattle.copying.specs.Copied.{Source, CopyReady, Copies}
+use Rattle.copying.specs.Inner.{Source, CopyReady, Copies}
 use Rattle.copying.proofs.Caching.{copy-lawful}
 use Rattle.copying.proofs.Steps.{copy-at}
 

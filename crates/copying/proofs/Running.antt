@@ -9,8 +9,8 @@ use native.Mathlib.Decide.{decLt}
 use lib.ListN.{length, getD}
 use Rattle.types.specs.Out.{ok}
 use Rattle.types.specs.Node.{Polarity, positive, Tag, Node, node, tag, children, well}
-use Rattle.types.specs.Arena.{Arena, at, fold, sound, Ext, here}
-use Rattle.types.specs.Places.{child-sign, Place, self, down, Reachable}
+use Rattle.types.specs.Arena.{Arena, at, sound, Ext, here}
+use Rattle.types.specs.Places.{child-sign, Place, self, down}
 use Rattle.types.proofs.Tests.{same-truth}
 use Rattle.types.proofs.Lists.{below-by}
 use Rattle.types.proofs.Growth.{ext-trans}
@@ -25,8 +25,9 @@ use Rattle.recursion.proofs.Members.{index-of}
 use Rattle.recursion.proofs.Answers.{ok-same, bind-parts}
 use Rattle.recursion.proofs.Interning.{node-is, well-again, Interned, interned}
 use Rattle.copying.specs.Copy.{copy}
+use Rattle.copying.specs.Theorems.{Compacts, CompactFold, CopyOf, CompactOnly, CompactAll, CompactCount}
 use Rattle.copying.proofs.Steps.{copy-at}
-use Rattle.copying.proofs.Copies.{CopyOf, copy-inside, copy-made, copy-later, copy-injective, copy-fold, CopyAt, copy-place}
+use Rattle.copying.proofs.Copies.{copy-inside, copy-made, copy-later, copy-injective, copy-fold, copy-place}
 use Rattle.copying.proofs.Counts.{Counted, counted-none, counted-more}
 
 -- c has a place below node n, where n has the sign s
@@ -151,39 +152,40 @@ module _ (words starts table : ℕ) (few : starts ≤ 4096) (u : Arena) (g : sou
     pub compact-inside : m < length b
     compact-inside = copy-inside (ran .is)
 
-    -- the type and its copy have the same value, whatever is read off the tags: so they unfold to the same tree
-    pub compact-fold : {Y : Type 0} (value : Tag → List Y → Y) → fold value b m ≡ fold value u root
-    compact-fold value = copy-fold value table u b g (ran .good) (ran .is)
+ran-of : {words starts table : ℕ} {u : Arena} {root m : ℕ} {b : Arena} → Compacts words starts table u root m b → Ran table u [] root m b
+ran-of {words} {starts} {table} {u} {root} {m} {b} C = ran words starts table (C .few) u (C .good) root m b (C .inside) (C .run)
 
-    -- each node of the target is the copy of a reachable node
-    pub record CopyIn (k : ℕ) : Type 0 where
-      pub source : ℕ
-      pub reachable : Reachable u root source
-      pub copy : CopyOf u b source k
+-- the type and its copy have the same value, whatever is read off the tags: so they unfold to the same tree
+pub compact-fold : {Y : Type 0} (value : Tag → List Y → Y) → CompactFold value
+compact-fold value words starts table u root m b C = let R = ran-of C in copy-fold value table u b (C .good) (R .good) (R .is)
 
-    pub compact-only : (k : ℕ) → k < length b → CopyIn k
-    compact-only k h =
-        let F = ran .new k (omega arith) h in
-        let P = F .under positive in
-        record { source = F .source; reachable = record { sign = P .sign; place = P .place }; copy = F .copy }
+-- each node of the target is the copy of a reachable node
+pub compact-only : CompactOnly
+compact-only words starts table u root m b C k h =
+    let F = ran-of C .new k (omega arith) h in
+    let P = F .under positive in
+    record { source = F .source; reachable = record { sign = P .sign; place = P .place }; copy = F .copy }
 
-    -- each reachable node has a copy that is reachable from the target's root
-    pub compact-all : {c : ℕ} {p : Polarity} → Place u root positive c p → CopyAt u b m positive c p
-    compact-all P = copy-place (ran .is) P
+-- each reachable node has a copy that is reachable from the target's root
+pub compact-all : CompactAll
+compact-all words starts table u root m b C c p P = copy-place (ran-of C .is) P
 
-    -- the target has as many nodes as are reachable
-    pub compact-count : length b ≡ reach-count u root
-    unfolding reach-count
-    compact-count = sym (K .count) ∙ count-same (K .set) (reaches u root) (length u) (λ c h. same-truth (K .set c) (reaches u root c) (reached c) (met c))
-      where
-        K : Counted u b
-        K = ran .counts counted-none
+-- the target has as many nodes as are reachable
+pub compact-count : CompactCount
+unfolding reach-count
+compact-count words starts table u root m b C = sym (K .count) ∙ count-same (K .copied) (reaches u root) (length u) (λ c h. same-truth (K .copied c) (reaches u root c) (reached c) (met c))
+  where
+    K : Counted u b
+    K = ran-of C .counts counted-none
 
-        reached : (c : ℕ) → K .set c ≡ true → reaches u root c ≡ true
-        reached c p =
-            let C = K .there c p in
-            let F = compact-only (C .number) (copy-inside (C .copy)) in
-            subst (λ (i : ℕ). reaches u root i ≡ true) (sym (copy-injective table g (C .copy) (F .copy))) (place-reaches table u g (F .source) (F .reachable .place) l)
+    reached : (c : ℕ) → K .copied c ≡ true → reaches u root c ≡ true
+    reached c p =
+        let D = K .there c p in
+        let F = compact-only words starts table u root m b C (D .number) (copy-inside (D .copy)) in
+        subst (λ (i : ℕ). reaches u root i ≡ true) (sym (copy-injective table (C .good) (D .copy) (F .copy))) (place-reaches table u (C .good) (F .source) (F .reachable .place) (C .inside))
 
-        met : (c : ℕ) → reaches u root c ≡ true → K .set c ≡ true
-        met c p = let D = compact-all (reaches-place table u g c root l p .place) in K .only c (D .number) (D .copy)
+    met : (c : ℕ) → reaches u root c ≡ true → K .copied c ≡ true
+    met c p =
+        let P = reaches-place table u (C .good) c root (C .inside) p in
+        let D = compact-all words starts table u root m b C c (P .sign) (P .place) in
+        K .only c (D .number) (D .copy)

@@ -1,2 +1,3 @@
 pub mod Copy
-pub mod Copied
+pub mod Theorems
+pub mod Inner

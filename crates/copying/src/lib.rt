@@ -11,9 +11,9 @@ use recursion::item_at;
 use recursion::remember;
 use types::Counters;
 use types::arc_ty::wide;
-ghost use Rattle.recursion.specs.Work.{Ready, Does, EachReady, DoesEach};
+ghost use Rattle.recursion.specs.Inner.Work.{Ready, Does, EachReady, DoesEach};
 ghost use Rattle.copying.specs.Copy.{copy};
-ghost use Rattle.copying.specs.Copied.{Source, CopyReady, Copies};
+ghost use Rattle.copying.specs.Inner.{Source, CopyReady, Copies};
 
 // The copy of node n, whose children's copies are the items: its words with these children.
 fn intern_copy(
@@ -99,22 +99,20 @@ fn compact_inner_uncached(
         d,
         cache,
     );
-    match r {
-        Run::Went(e) => {
-            intern_copy(
-                words,
-                starts,
-                c,
-                n,
-                &list.items,
-                count,
-                target_words,
-                target_starts,
-                e,
-            )
-        }
-        Run::Refused(number) => Interned::Refused(number),
-    }
+    let Run::Went(e) = r else {
+        return Interned::Refused(r.refusal());
+    };
+    intern_copy(
+        words,
+        starts,
+        c,
+        n,
+        &list.items,
+        count,
+        target_words,
+        target_starts,
+        e,
+    )
 }
 
 // The copy of each of the first `count` items, in its place; all are below n.
@@ -150,15 +148,11 @@ fn compact_each(
             last,
             cache,
         );
-        match r {
-            Interned::Refused(number) => {
-                return Run::Refused(number);
-            }
-            Interned::Node(m, e) => {
-                items[i] = m;
-                last = e;
-            }
-        }
+        let Interned::Node(m, e) = r else {
+            return Run::Refused(r.refusal());
+        };
+        items[i] = m;
+        last = e;
         i += 1;
     }
     Run::Went(last)

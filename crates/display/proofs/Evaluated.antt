@@ -1,9 +1,8 @@
 -- Every worked text is the definition's, by evaluation.
-use mathlib.Core.Path.{_≡_, refl}
-use mathlib.Core.List.{map}
+use mathlib.Core.Path.{refl}
 use Rattle.text_writing.specs.Text.{type-text}
-use Rattle.display.specs.Worked.{Case, worked}
+use Rattle.display.specs.Theorems.{WorkedSo}
 
-pub worked-so : map (λ (c : Case). c .gives) worked ≡ map (λ (c : Case). c .says) worked
+pub worked-so : WorkedSo
 unfolding type-text
 worked-so = refl

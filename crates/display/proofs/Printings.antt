@@ -17,14 +17,14 @@ use Rattle.types.proofs.Faults.{children-encode}
 use Rattle.types.proofs.Sound.{at-formed, fold-at}
 use Rattle.types.proofs.Memories.{unique}
 use Rattle.names.specs.Table.{Name, split}
-use Rattle.node_store.specs.Stored.{InRange, NodeAt}
+use Rattle.node_store.specs.Inner.Stored.{InRange, NodeAt}
 use Rattle.text_writing.specs.Text.{when, beginning, parens, before, ending, shown, Printed, child-text, child-texts, node-text, type-text}
-use Rattle.text_writing.specs.Writes.{Writes, IsFormed}
-use Rattle.text_writing.specs.Children.{ChildOf, encloses, IsChild, Opens, Closes}
+use Rattle.text_writing.specs.Inner.Writes.{Writes, IsFormed}
+use Rattle.text_writing.specs.Inner.Children.{ChildOf, encloses, IsChild, Opens, Closes}
 use Rattle.text_writing.proofs.Appending.{writes-nothing, writes-over, writes-then, writes-three}
 use Rattle.text_writing.proofs.Childhood.{child-below, child-range}
 use Rattle.text_writing.proofs.Tags.{formed-guess}
-use Rattle.display.specs.Prints.{Prints}
+use Rattle.display.specs.Inner.{Prints}
 
 -- ---- the text of a node of a sound arena
 shown-map : (f : ℕ → Printed) (t : Tag) (cs : List ℕ) → shown t (map f cs) ≡ map f (shown t cs)

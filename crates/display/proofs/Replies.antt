@@ -13,16 +13,18 @@ use Rattle.types.specs.Arena.{Arena}
 use Rattle.types.specs.declared.Counters.{Counters}
 use Rattle.types.proofs.Memories.{unique}
 use Rattle.names.specs.Table.{split}
-use Rattle.soundness.specs.Sound.{lent-reply, judged-out}
+use Rattle.soundness.specs.Inner.Sound.{lent-reply, judged-out}
 use Rattle.soundness.specs.declared.Judged.{Judged}
 use Rattle.soundness.specs.declared.Judged.the-variants as verdict
 use Rattle.soundness.proofs.Verdicts.{lent-known}
-use Rattle.walks.specs.Asked.{asking, Says, Answers}
+use Rattle.walks.specs.Asked.{asking}
+use Rattle.walks.specs.Inner.Asked.{Says, Answers}
 use Rattle.walks.proofs.Asking.{root-out, root-in, ask-refused, ask-done}
 use Rattle.text_writing.specs.Text.{type-text}
-use Rattle.text_writing.specs.Writes.{Writes}
-use Rattle.display.specs.Prints.{Prints}
-use Rattle.display.specs.Reply.{reply, displaying, reply-of, display-reply, left, Displays, DisplaysRoot}
+use Rattle.text_writing.specs.Inner.Writes.{Writes}
+use Rattle.display.specs.Inner.{Prints}
+use Rattle.display.specs.Reply.{reply, displaying, reply-of, display-reply, left}
+use Rattle.display.specs.Inner.{Displays, DisplaysRoot}
 use Rattle.display.specs.declared.Displayed.{Displayed}
 use Rattle.display.specs.declared.Displayed.the-variants as displayed
 

@@ -1,3 +1,4 @@
-pub mod Prints
 pub mod Reply
 pub mod Worked
+pub mod Theorems
+pub mod Inner

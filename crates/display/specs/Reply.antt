@@ -1,16 +1,13 @@
 -- What `display` answers and leaves (01, "Who can cause which number").
 use Prim.Native.Nat.{ℕ, min}
-use mathlib.Core.Path.{_≡_}
 use mathlib.Core.Bool.{true, false}
 use mathlib.Core.List.{List, _++_}
 use lib.ListN.{length, drop, replicate}
 use lib.Dec.{leb}
 use Rattle.types.specs.Out.{Out, ok, refuse}
-use Rattle.types.specs.Arena.{Arena}
-use Rattle.types.specs.Memory.{Holds}
 use Rattle.types.specs.declared.Counters.{Counters}
 use Rattle.names.specs.Table.{split}
-use Rattle.walks.specs.Asked.{asking, ask-reply}
+use Rattle.walks.specs.Asked.{ask-reply}
 use Rattle.text_writing.specs.Text.{type-text}
 use Rattle.display.specs.declared.Displayed.{Displayed}
 use Rattle.display.specs.declared.Displayed.the-variants as displayed
@@ -45,11 +42,3 @@ displayed-out (displayed.Refused e) = refuse e
 -- an answer with the bytes as left
 abbrev pub left : Displayed → List ℕ → Reply
 left r b = reply (displayed-out r) b
-
--- what is answered and left is the text of the root's type, in any arena that memory holds
-pub record Displays (t w s : List ℕ) (c : Counters) (root : ℕ) (b b′ : List ℕ) (r : Displayed) : Type 0 where
-  pub is : (table : ℕ) (a : Arena) → Holds table w s c a → left r b′ ≡ displaying b (type-text (split t) a root)
-
--- the same after 6
-pub record DisplaysRoot (t w s : List ℕ) (c : Counters) (root : ℕ) (b b′ : List ℕ) (r : Displayed) : Type 0 where
-  pub is : (table : ℕ) (a : Arena) → Holds table w s c a → left r b′ ≡ reply-of b (asking (type-text (split t)) root a)

@@ -13,15 +13,29 @@ use types::Counters;
 use types::arc_ty::wide;
 ghost use mathlib.Core.Path.{_≡_};
 ghost use Prim.Native.Nat.{min};
+ghost use Rattle.types.specs.Out.{number};
 ghost use lib.ListN.{length, replicate};
-ghost use Rattle.node_store.specs.Stored.{Lent, InRange};
-ghost use Rattle.display.specs.Prints.{Prints};
-ghost use Rattle.display.specs.Reply.{display-reply, left, Displays, DisplaysRoot};
+ghost use Rattle.node_store.specs.Inner.Stored.{Lent, InRange};
+ghost use Rattle.display.specs.Inner.{Prints};
+ghost use Rattle.display.specs.Reply.{display-reply, displayed-out, left};
+ghost use Rattle.display.specs.Inner.{Displays, DisplaysRoot};
 
 // The length of the text, or the number of a refusal.
 pub enum Displayed {
     Text(usize),
     Refused(u32),
+}
+
+impl Displayed {
+    // The number of a refusal, for an answer of another type.
+    pub fn refusal(self) -> u32
+        ensures { λ r. ⌜ r ≡ number (displayed-out self) ⌝ }
+    {
+        match self {
+            Displayed::Text(_) => 0,
+            Displayed::Refused(number) => number,
+        }
+    }
 }
 
 // The most bytes that a text may have.

@@ -14,7 +14,7 @@ use Rattle.types.proofs.Memories.{unique}
 use Rattle.types.proofs.Addresses.{start-room}
 use Rattle.names.specs.Table.{Name}
 use Rattle.equal.specs.Equal.{Tree, over, label-of, tree}
-use Rattle.equal.specs.Pairs.{Beside, Side}
+use Rattle.equal.specs.Inner.Pairs.{Beside, Side}
 use Rattle.equal.proofs.OnePartner.{over-parts, tree-at}
 use Rattle.equal.proofs.SameNodes.{Alike}
 

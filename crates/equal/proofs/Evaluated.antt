@@ -1,9 +1,8 @@
 -- Every pair is as its case says, by evaluation.
-use mathlib.Core.Path.{_≡_, refl}
-use mathlib.Core.List.{map}
+use mathlib.Core.Path.{refl}
 use Rattle.equal.specs.Equal.{equal}
-use Rattle.equal.specs.Worked.{Case, worked}
+use Rattle.equal.specs.Theorems.{WorkedSo}
 
-pub worked-so : map (λ (c : Case). c .gives) worked ≡ map (λ (c : Case). c .says) worked
+pub worked-so : WorkedSo
 unfolding equal
 worked-so = refl

@@ -17,7 +17,7 @@ use Rattle.types.proofs.Nodes.{cons}
 use Rattle.names.specs.Table.{Name, name-order, name-text}
 use Rattle.names.proofs.Numbers.{name-order-total}
 use Rattle.equal.specs.Equal.{spelling, spelling-dec, spellings-dec}
-use Rattle.equal.specs.Data.{spelt, same-spelt}
+use Rattle.equal.specs.Inner.Data.{spelt, same-spelt}
 
 -- ---- two flags
 flags-differ : (a b : Bool) → not (Bool·beq a b) ≡ true → a ≡ b → ⊥

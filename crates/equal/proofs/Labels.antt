@@ -15,7 +15,7 @@ use Rattle.node_order.specs.WordsOrder.{field-count}
 use Rattle.names.specs.Table.{Name, names-of}
 use Rattle.names.proofs.Tables.{name-text-is}
 use Rattle.equal.specs.Equal.{spelling, label, spell, label-of}
-use Rattle.equal.specs.Data.{spelt}
+use Rattle.equal.specs.Inner.Data.{spelt}
 
 -- ---- below kind 4
 pub record Plain (ns : List Name) (t : Tag) (cs : List ℕ) : Type 0 where

@@ -19,6 +19,7 @@ use Rattle.types.proofs.Sound.{at-well, at-formed, children-below, fold-at, at-
 use Rattle.names.specs.Table.{Name, name-order, names-of}
 use Rattle.names.proofs.Numbers.{name-order-total, number-order}
 use Rattle.equal.specs.Equal.{Label, Tree, over, spell, label-of, tree}
+use Rattle.equal.specs.Theorems.{OnePartner}
 
 -- ---- a tree has one label and one list of children
 pub over-parts : (l m : Label) (ts us : List Tree) → over l ts ≡ over m us → (l ≡ m) × (ts ≡ us)
@@ -111,6 +112,6 @@ module _ (t : List ℕ) (ns : List Name) (e : names-of t ≡ some ns) (a : Arena
       one-number p q k l (encode-injective (at a p) (at a q) (at-formed (length ns) a h p k) (at-formed (length ns) a h q l)
       (same-node t ns e (at a p) (at a q) (named-so p k) (named-so q l) (s .0) (apart (tree ns a) m (children (at a p)) (children (at a q)) x y f (s .1))))
 
-  -- two nodes with the same tree are one
-  pub one-partner : (p q : ℕ) → p < length a → q < length a → tree ns a p ≡ tree ns a q → p ≡ q
-  one-partner p q k l r = apart-below (length a) p q (omega arith) k l r
+-- two nodes with the same tree are one
+pub one-partner : OnePartner
+one-partner t ns e a h p q k l r = apart-below t ns e a h (length a) p q (omega arith) k l r

@@ -10,10 +10,12 @@ use lib.ListN.{length, getD, set, length-set}
 use lib.Seq.{getD-set-same, getD-set-other}
 use lib.Dec.{eqb}
 use borrow.Author.Tests.{eqb-true, eqb-false, not-true, not-false}
+use Rattle.words.specs.Words.{child}
 use Rattle.types.specs.Fault.{children-in}
 use Rattle.types.proofs.Tests.{true-false}
-use Rattle.node_reading.proofs.Offspring.{child-small}
-use Rattle.equal.specs.Pairs.{Pair, Fit, Gives, Beside, Level, GivesAll}
+use Rattle.node_reading.specs.Nodes.{ChildWords}
+use Rattle.node_reading.proofs.Offspring.{as-many, child-is, child-small}
+use Rattle.equal.specs.Inner.Pairs.{Pair, Fit, Gives, Beside, Level, GivesAll}
 
 -- ---- one pair
 module _ {ps : List ℕ} {k p : ℕ} (F : Fit ps k p) where
@@ -54,20 +56,22 @@ module _ {ps : List ℕ} {k p : ℕ} (F : Fit ps k p) where
       }
 
 -- ---- the pairs of children
-pub record Giving (v w ps qs : List ℕ) (count i : ℕ) : Type 0 where
-  pub counted : count ≡ length (children-in v)
+pub record Giving (v w bs cs ps qs : List ℕ) (i : ℕ) : Type 0 where
+  pub left : ChildWords v bs
+  pub right : ChildWords w cs
   pub level : length (children-in v) ≡ length (children-in w)
   pub room : length ps ≡ 4096
   pub long : length qs ≡ length ps
-  pub turn : i ≤ count
+  pub turn : i ≤ length bs
   pub kept : (j q : ℕ) → Pair ps j q → Pair qs j q
   pub only : (j q : ℕ) → Pair qs j q → Pair ps j q ⊎ Beside (children-in v) (children-in w) j q
   pub given : (x : ℕ) → x < i → Pair qs (getD (children-in v) x 0) (getD (children-in w) x 0)
 
-module _ {v w ps : List ℕ} {count : ℕ} where
-  pub giving-start : Level v w ps → count ≡ length (children-in v) → Giving v w ps ps count 0
-  giving-start L e = record {
-    counted = e;
+module _ {v w bs cs ps : List ℕ} where
+  pub giving-start : Level v w ps → ChildWords v bs → ChildWords w cs → Giving v w bs cs ps ps 0
+  giving-start L B C = record {
+    left = B;
+    right = C;
     level = L .count;
     room = L .long;
     long = refl;
@@ -77,23 +81,29 @@ module _ {v w ps : List ℕ} {count : ℕ} where
     given = λ x l. absurd (omega arith);
   }
 
-  module _ {qs : List ℕ} {i : ℕ} (G : Giving v w ps qs count i) where
-    pub giving-left : i < count → i < length (children-in v)
-    giving-left l = omega (arith, G .counted)
+  module _ {qs : List ℕ} {i : ℕ} (G : Giving v w bs cs ps qs i) where
+    in-left : i < length bs → i < length (children-in v)
+    in-left l = omega (arith, as-many (G .left))
 
-    pub giving-right : i < count → i < length (children-in w)
-    giving-right l = omega (arith, G .counted, G .level)
+    pub giving-right : i < length bs → i < length cs
+    giving-right l = omega (arith, as-many (G .left), G .level, as-many (G .right))
 
-    module _ (l : i < count) {m n : ℕ} (e : m ≡ getD (children-in v) i 0) (f : n ≡ getD (children-in w) i 0) where
+    module _ (l : i < length bs) {m n : ℕ} (x : m ≡ child (getD bs i 0)) (y : n ≡ child (getD cs i 0)) where
+      e : m ≡ getD (children-in v) i 0
+      e = child-is (G .left) i x
+
+      f : n ≡ getD (children-in w) i 0
+      f = child-is (G .right) i y
+
       pub giving-fit : Fit qs m n
       giving-fit = record {
         long = G .long ∙ G .room;
-        left = omega (arith, e, child-small v i (giving-left l));
-        right = omega (arith, f, child-small w i (giving-right l));
+        left = omega (arith, e, child-small v i (in-left l));
+        right = omega (arith, f, child-small w i (omega (arith, in-left l, G .level)));
       }
 
       here : Beside (children-in v) (children-in w) m n
-      here = record { index = i; inside = giving-left l; left = e; right = f }
+      here = record { index = i; inside = in-left l; left = e; right = f }
 
       module _ {rs : List ℕ} {b : Bool} (H : Gives qs m n rs b) where
         kept-on : (j q : ℕ) → Pair ps j q → Pair rs j q
@@ -104,7 +114,7 @@ module _ {v w ps : List ℕ} {count : ℕ} where
           where
             go : Pair qs j q ⊎ ((j ≡ m) × (q ≡ n)) → Pair ps j q ⊎ Beside (children-in v) (children-in w) j q
             go (inl y) = G .only j q y
-            go (inr y) = inr (record { index = i; inside = giving-left l; left = y .0 ∙ e; right = y .1 ∙ f })
+            go (inr y) = inr (record { index = i; inside = in-left l; left = y .0 ∙ e; right = y .1 ∙ f })
 
         pub giving-clash : not b ≡ true → GivesAll (children-in v) (children-in w) ps rs false
         giving-clash g = record {
@@ -115,8 +125,8 @@ module _ {v w ps : List ℕ} {count : ℕ} where
           clash = λ h. record { node = m; beside = n; pair = here; other = H .other (not-true b g) };
         }
 
-        pub giving-more : not b ≡ false → Giving v w ps rs count (i + 1)
-        giving-more g = record { counted = G .counted; level = G .level; room = G .room; long = H .long ∙ G .long; turn = omega arith; kept = kept-on; only = only-then; given = given }
+        pub giving-more : not b ≡ false → Giving v w bs cs ps rs (i + 1)
+        giving-more g = record { left = G .left; right = G .right; level = G .level; room = G .room; long = H .long ∙ G .long; turn = omega arith; kept = kept-on; only = only-then; given = given }
           where
             given : (x : ℕ) → x < i + 1 → Pair rs (getD (children-in v) x 0) (getD (children-in w) x 0)
             given x k = go (ℕ-discrete x i)
@@ -128,12 +138,12 @@ module _ {v w ps : List ℕ} {count : ℕ} where
                 go (yes r) = subst (λ (y : ℕ). Pair rs (getD (children-in v) y 0) (getD (children-in w) y 0)) (sym r) now-given
                 go (no r) = H .kept _ _ (G .given x (omega arith))
 
-    pub giving-done : count ≤ i → GivesAll (children-in v) (children-in w) ps qs true
+    pub giving-done : length bs ≤ i → GivesAll (children-in v) (children-in w) ps qs true
     giving-done h = record {
       long = G .long;
       kept = G .kept;
       only = G .only;
       given = λ e j q B.
-          ap (λ (y : ℕ). getD qs y 0) (B .left) ∙ G .given (B .index) (omega (arith, B .inside, G .counted)) ∙ ap (λ (y : ℕ). y + 1) (sym (B .right));
+          ap (λ (y : ℕ). getD qs y 0) (B .left) ∙ G .given (B .index) (omega (arith, B .inside, as-many (G .left))) ∙ ap (λ (y : ℕ). y + 1) (sym (B .right));
       clash = λ e. absurd (true-false e);
     }

@@ -12,13 +12,13 @@ use Rattle.types.specs.Reply.{judged, rooted}
 use Rattle.types.specs.declared.Counters.{Counters}
 use Rattle.types.proofs.Replies.{tabled-yes, judged-yes, rooted-no, rooted-yes}
 use Rattle.names.specs.Table.{Name, names-of}
-use Rattle.soundness.specs.Sound.{lent-reply, judged-out}
+use Rattle.soundness.specs.Inner.Sound.{lent-reply, judged-out}
 use Rattle.soundness.specs.declared.Judged.{Judged}
 use Rattle.soundness.specs.declared.Judged.the-variants as verdict
 use Rattle.soundness.proofs.Verdicts.{lent-names, lent-refused}
 use Rattle.equal.specs.Equal.{equal}
 use Rattle.equal.specs.Reply.{lent-to, equal-roots, equal-reply}
-use Rattle.equal.specs.Pairs.{Side, Sides, Tells, Answers, RightAnswers}
+use Rattle.equal.specs.Inner.Pairs.{Side, Sides, Tells, Answers, RightAnswers}
 
 -- ---- 6 for either root
 abbrev answer : ℕ → ℕ → List Name → List Name → Arena → Arena → Out Bool

@@ -15,10 +15,11 @@ use Rattle.types.specs.Kind.{disc}
 use Rattle.types.specs.Node.{Node, node, tag, children, kind, data-of, body, head-of, encode, formed, field-of}
 use Rattle.types.proofs.Tests.{and-true, both, not-true, same-truth, same-true, same-if}
 use Rattle.types.proofs.Nodes.{formed-parts, encode-kind, encode-open, encode-dynamic}
-use Rattle.node_order.specs.WordsOrder.{field-count, FieldCount}
+use Rattle.node_order.specs.WordsOrder.{field-count}
+use Rattle.node_order.specs.Inner.{FieldCount}
 use Rattle.names.specs.Table.{Name, names-of}
 use Rattle.equal.specs.Equal.{label, spell, label-of, label-dec, spellings-dec}
-use Rattle.equal.specs.Data.{spelt, same-spelt, same-data, SameData}
+use Rattle.equal.specs.Inner.Data.{spelt, same-spelt, same-data, SameData}
 use Rattle.equal.proofs.Labels.{plain, fielded, fields-spelt, body-length, one-word}
 
 -- ---- what the test says

@@ -15,7 +15,7 @@ use Rattle.types.specs.declared.Counters.{Counters}
 use Rattle.types.proofs.Tests.{same-if, same-not}
 use Rattle.types.proofs.Sound.{child-lower}
 use Rattle.equal.specs.Equal.{tree, tree-dec, equal}
-use Rattle.equal.specs.Pairs.{Pair, Side, Matched, Agreeing, Below, Visit, Visiting, Visited, Roots, Fresh, Tells}
+use Rattle.equal.specs.Inner.Pairs.{Pair, Side, Matched, Agreeing, Below, Visit, Visiting, Visited, Roots, Fresh, Tells}
 use Rattle.equal.proofs.Descending.{child-trees, alike-trees, side-names, side-view, side-small}
 
 pub record Sweep (t w s : List ℕ) (c : Counters) (m : ℕ) (u v r : List ℕ) (d : Counters) (n : ℕ) (ps : List ℕ) (k : ℕ) : Type 0 where

@@ -15,10 +15,10 @@ use Rattle.types.proofs.Tests.{true-false}
 use Rattle.types.proofs.Nodes.{length-encode}
 use Rattle.types.proofs.Faults.{children-encode}
 use Rattle.types.proofs.Sound.{at-formed, child-lower}
-use Rattle.node_store.specs.Stored.{Lent, InRange, NodeAt}
+use Rattle.node_store.specs.Inner.Stored.{Lent, InRange, NodeAt}
 use Rattle.equal.specs.Equal.{tree}
-use Rattle.equal.specs.Data.{SameData}
-use Rattle.equal.specs.Pairs.{Pair, Beside, Clash, Level, GivesAll, Side, Matched, Agreeing, Below, Visit, Visiting, Visited}
+use Rattle.equal.specs.Inner.Data.{SameData}
+use Rattle.equal.specs.Inner.Pairs.{Pair, Beside, Clash, Level, GivesAll, Side, Matched, Agreeing, Below, Visit, Visiting, Visited}
 use Rattle.equal.proofs.OnePartner.{one-partner}
 use Rattle.equal.proofs.SameNodes.{Alike, data-alike, alike-data}
 use Rattle.equal.proofs.Descending.{trees-alike, child-trees, side-small}

@@ -1,5 +1,5 @@
 pub mod Equal
 pub mod Reply
-pub mod Data
-pub mod Pairs
 pub mod Worked
+pub mod Theorems
+pub mod Inner

@@ -11,7 +11,7 @@ use types::Counters;
 use types::arc_ty::wide;
 ghost use mathlib.Core.Path.{_≡_};
 ghost use Rattle.questions.specs.Vars.{asked-out};
-ghost use Rattle.equal.specs.Pairs.{Side, Sides, Answers, RightAnswers};
+ghost use Rattle.equal.specs.Inner.Pairs.{Side, Sides, Answers, RightAnswers};
 ghost use Rattle.equal.specs.Reply.{equal-reply};
 
 // Whether the roots are equal, in arenas that are known to be sound.

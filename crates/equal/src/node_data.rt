@@ -11,7 +11,7 @@ ghost use mathlib.Core.Path.{_≡_};
 ghost use lib.ListN.{length, getD};
 ghost use Rattle.types.specs.Same.{same};
 ghost use Rattle.equal.specs.Equal.{spelling-dec};
-ghost use Rattle.equal.specs.Data.{spelt, same-spelt, SameData};
+ghost use Rattle.equal.specs.Inner.Data.{spelt, same-spelt, SameData};
 
 // Whether two fields are both optional or both not, and have the same name.
 fn same_field(left_table: &[u8], v: u32, right_table: &[u8], w: u32) -> bool

@@ -2,16 +2,16 @@
 // left has at most one partner in the right. Children have lower numbers, so one loop from the left root down meets each node
 // after all that lead to it, and every word of the left arena at most once.
 use crate::node_data::same_data;
-use node_reading::children::child_at;
-use node_reading::children::child_count;
+use node_reading::children::child_words;
 use node_store::stored::node_at;
 use types::Counters;
+use types::arc_ty::child;
 use types::arc_ty::wide;
 ghost use Prim.Native.Nat.{_<_};
 ghost use mathlib.Core.Path.{_≡_};
 ghost use lib.ListN.{getD};
 ghost use Rattle.types.specs.Fault.{children-in};
-ghost use Rattle.equal.specs.Pairs.{Fit, Gives, Level, GivesAll, Visiting, Visited, Roots, Fresh, Tells};
+ghost use Rattle.equal.specs.Inner.Pairs.{Fit, Gives, Level, GivesAll, Visiting, Visited, Roots, Fresh, Tells};
 
 // Gives the node `left` the partner `right` if it has none; false where it has another. A partner is its number and one.
 fn pair(partners: &mut [u32; 4096], left: u32, right: u32) -> bool
@@ -33,10 +33,11 @@ fn pair_children(a: &[u32], b: &[u32], partners: &mut [u32; 4096]) -> bool
     ensures { λ r. ⌜ GivesAll (children-in (now (a .entry))) (children-in (now (b .entry))) (now (partners .entry))
         (now (partners .exit)) r ⌝ }
 {
-    let count = child_count(a);
+    let left = child_words(a);
+    let right = child_words(b);
     let mut i = 0;
-    while i < count {
-        if !pair(partners, child_at(a, i), child_at(b, i)) {
+    while i < left.len() {
+        if !pair(partners, child(left[i]), child(right[i])) {
             return false;
         }
         i += 1;

@@ -15,8 +15,8 @@ use Rattle.bits.specs.Bits.{count-below}
 use Rattle.walks.specs.Reach.{some-of}
 use Rattle.walks.proofs.Reaching.{some-in, in-some, or-right}
 use Rattle.walks.proofs.Counting.{or-left}
-use Rattle.free_vars.specs.FreeVars.{node-vars, contains}
-use Rattle.free_vars.specs.Collect.{distinct, VarNode}
+use Rattle.free_vars.specs.FreeVars.{node-vars, contains, distinct}
+use Rattle.free_vars.specs.Inner.{VarNode}
 use Rattle.free_vars.proofs.FirstCopies.{distinct-cons}
 
 -- ---- a test that passes for more numbers counts more

@@ -9,8 +9,7 @@ use borrow.Author.Tests.{eqb-true, eq-eqb, not-true as not-so}
 use Rattle.types.proofs.Tests.{true-false, and-true, both, not-true}
 use Rattle.walks.proofs.Reaching.{or-right}
 use Rattle.walks.proofs.Counting.{or-cases, or-left}
-use Rattle.free_vars.specs.FreeVars.{contains, add-new, add-all}
-use Rattle.free_vars.specs.Collect.{distinct}
+use Rattle.free_vars.specs.FreeVars.{contains, add-new, add-all, distinct}
 
 -- ---- one list after another
 pub contains-append : (l r : List ℕ) (v : ℕ) → contains (l ++ r) v ≡ (contains l v || contains r v)
@@ -37,7 +36,7 @@ unfolding contains
 one-contains x v e = eqb-true x v (sym (or-false (eqb x v)) ∙ e)
 
 -- ---- one variable added, or there already
-add-known : (l : List ℕ) (v : ℕ) → contains l v ≡ true → add-new l v ≡ l
+pub add-known : (l : List ℕ) (v : ℕ) → contains l v ≡ true → add-new l v ≡ l
 unfolding add-new
 add-known l v e = rw (add-new, e)
 
@@ -61,7 +60,7 @@ module _ (P : List ℕ → Type 0) (more : (l : List ℕ) (v : ℕ) → contains
       go true e = rw (add-known l v e) p
       go false e = rw (add-fresh l v e) (more l v e p)
 
-  all-keeps : (l vs : List ℕ) → P l → P (add-all l vs)
+  pub all-keeps : (l vs : List ℕ) → P l → P (add-all l vs)
   unfolding add-all
   all-keeps l [] p = p
   all-keeps l (v ∷ vs) p = all-keeps (add-new l v) vs (new-keeps l v p)

@@ -13,7 +13,7 @@ use Rattle.types.proofs.Lists.{padded-set}
 use Rattle.bits.specs.Bits.{has, Put}
 use Rattle.walks.proofs.Additions.{put-kept, put-only}
 use Rattle.free_vars.specs.FreeVars.{occurrences, contains, add-all}
-use Rattle.free_vars.specs.Collect.{Complete, VarNode, MarkedVar, Listing}
+use Rattle.free_vars.specs.Inner.{Complete, VarNode, MarkedVar, Listing}
 use Rattle.free_vars.proofs.FirstCopies.{contains-left, contains-right, contains-cases, one-contains, add-fresh, distinct-more}
 use Rattle.free_vars.proofs.Occurrences.{at-var, one-node}
 use Rattle.free_vars.proofs.Counts.{vars-few}

@@ -13,7 +13,7 @@ use Rattle.types.specs.Arena.{Arena, at, fold, find, sound}
 use Rattle.types.proofs.Nodes.{nil, formed-parts}
 use Rattle.types.proofs.Sound.{at-formed, fold-at, at-find}
 use Rattle.free_vars.specs.FreeVars.{node-vars, occurrences}
-use Rattle.free_vars.specs.Collect.{VarNode}
+use Rattle.free_vars.specs.Inner.{VarNode}
 
 -- ---- kind 3
 pub record IsVar (t : Tag) : Type 0 where

@@ -9,15 +9,19 @@ use Rattle.types.specs.declared.Counters.{Counters}
 use Rattle.types.proofs.Tests.{true-false}
 use Rattle.types.proofs.Memories.{unique}
 use Rattle.bits.proofs.Sets.{has-none}
-use Rattle.node_store.specs.Stored.{InRange}
-use Rattle.soundness.specs.Sound.{lent-reply, judged-out}
+use Rattle.node_store.specs.Inner.Stored.{InRange}
+use Rattle.soundness.specs.Inner.Sound.{lent-reply, judged-out}
 use Rattle.soundness.specs.declared.Judged.{Judged}
 use Rattle.soundness.specs.declared.Judged.the-variants as verdict
 use Rattle.soundness.proofs.Verdicts.{lent-known}
-use Rattle.walks.specs.Asked.{asking, ask-reply, Says, Answers}
+use Rattle.walks.specs.Asked.{asking, ask-reply}
+use Rattle.walks.specs.Inner.Asked.{Says, Answers}
 use Rattle.walks.proofs.Asking.{root-out, root-in, ask-refused, ask-done}
-use Rattle.free_vars.specs.FreeVars.{contains, free-list, answered, AnswersIn}
-use Rattle.free_vars.specs.Collect.{distinct, Listing, Collecting, Collects}
+use Rattle.free_vars.specs.FreeVars.{contains, free-list, answered}
+use Rattle.free_vars.specs.Inner.{AnswersIn}
+use Rattle.free_vars.specs.Theorems.{AnsweredOut}
+use Rattle.free_vars.specs.FreeVars.{distinct}
+use Rattle.free_vars.specs.Inner.{Listing, Collecting, Collects}
 use Rattle.free_vars.specs.declared.FreeVars.{FreeVars}
 use Rattle.free_vars.specs.declared.VarList.{VarList}
 
@@ -59,3 +63,8 @@ module _ (t w s : List ℕ) (c : Counters) (root : ℕ) {j : Judged} (e : judged
       let L = lent-known t w s c e p in
       let A : Answers free-list w s c root (asking free-list root (L .view)) = record { is = λ k a H. ap (asking free-list root) (unique (L .holds) H) } in
       I .is _ (L .view) (L .holds) ∙ ap answered (ask-done free-list t w s c root e p refl A)
+
+-- ---- an answer read back
+pub answered-out : AnsweredOut
+answered-out (ok l) = refl
+answered-out (refuse e) = refl

@@ -10,23 +10,18 @@ use lib.ListN.{length, getD}
 use Rattle.types.specs.Kind.{disc}
 use Rattle.types.specs.Node.{Polarity, positive, var, tag, kind, children}
 use Rattle.types.specs.Arena.{Arena, at, sound}
-use Rattle.types.specs.Places.{child-sign, Place, self, down, Reachable}
+use Rattle.types.specs.Places.{child-sign, Place, self, down}
 use Rattle.types.proofs.Tests.{true-false}
 use Rattle.types.proofs.Sound.{child-lower}
 use Rattle.types.proofs.Walks.{place-lower}
 use Rattle.walks.specs.Reach.{some-of}
 use Rattle.walks.proofs.Reaching.{some-in, in-some}
-use Rattle.free_vars.specs.FreeVars.{occurrences, contains, free-type-vars}
-use Rattle.free_vars.specs.Collect.{distinct, VarNode}
+use Rattle.free_vars.specs.FreeVars.{occurrences, contains, free-type-vars, distinct}
+use Rattle.free_vars.specs.Inner.{VarNode}
+use Rattle.free_vars.specs.Theorems.{ListedOnce, VarPlace, ListedPlace, PlaceListed}
 use Rattle.free_vars.proofs.FirstCopies.{contains-append, contains-one, one-contains, add-has, add-only, distinct-all}
 use Rattle.free_vars.proofs.Occurrences.{kind-var, at-var, var-childless, at-other}
 use Rattle.free_vars.proofs.Counts.{vars-few}
-
--- the variable v has a place in the type of the root
-pub record VarPlace (a : Arena) (root v : ℕ) : Type 0 where
-  pub node : ℕ
-  pub reached : Reachable a root node
-  pub is : tag (at a node) ≡ var v
 
 -- v is in one of several lists
 contains-flatten : (f : ℕ → List ℕ) (cs : List ℕ) (v : ℕ) → contains (flatten (map f cs)) v ≡ some-of (map (λ (c : ℕ). contains (f c) v) cs)
@@ -35,7 +30,7 @@ contains-flatten f [] v = refl
 contains-flatten f (c ∷ cs) v = contains-append (f c) (flatten (map f cs)) v ∙ ap (λ (b : Bool). contains (f c) v || b) (contains-flatten f cs v)
 
 -- ---- no variable twice
-pub listed-once : (a : Arena) (root : ℕ) → distinct (free-type-vars a root) ≡ true
+pub listed-once : ListedOnce
 unfolding free-type-vars distinct
 listed-once a root = distinct-all [] (occurrences a root) refl
 
@@ -75,24 +70,23 @@ module _ (table : ℕ) (a : Arena) (h : sound table a ≡ true) (v : ℕ) where
       ∙ contains-flatten (occurrences a) cs v
       ∙ in-some (λ (c : ℕ). contains (occurrences a c) v) cs i k (met r q (omega arith))
 
-module _ (table : ℕ) (a : Arena) (h : sound table a ≡ true) (root : ℕ) (l : root < length a) where
-  pub listed-place : (v : ℕ) → contains (free-type-vars a root) v ≡ true → VarPlace a root v
-  unfolding free-type-vars contains
-  listed-place v e = go (add-only [] (occurrences a root) v e)
-    where
-      go : (contains [] v ≡ true) ⊎ (contains (occurrences a root) v ≡ true) → VarPlace a root v
-      go (inl q) = absurd (true-false (sym q))
-      go (inr q) = let L = led table a h v (suc root) root (omega arith) l q positive in record { node = L .node; reached = record { sign = L .sign; place = L .place }; is = L .is }
+pub listed-place : ListedPlace
+unfolding free-type-vars contains
+listed-place table a h root l v e = go (add-only [] (occurrences a root) v e)
+  where
+    go : (contains [] v ≡ true) ⊎ (contains (occurrences a root) v ≡ true) → VarPlace a root v
+    go (inl q) = absurd (true-false (sym q))
+    go (inr q) = let L = led table a h v (suc root) root (omega arith) l q positive in record { node = L .node; reached = record { sign = L .sign; place = L .place }; is = L .is }
 
-  pub place-listed : (v : ℕ) → VarPlace a root v → contains (free-type-vars a root) v ≡ true
-  unfolding free-type-vars
-  place-listed v P = add-has [] (occurrences a root) v (met table a h v (P .reached .place) (P .is) l)
+pub place-listed : PlaceListed
+unfolding free-type-vars
+place-listed table a h root l v P = add-has [] (occurrences a root) v (met table a h v (P .reached .place) (P .is) l)
 
-  pub listed-few : length (free-type-vars a root) ≤ length a
-  listed-few = vars-few a (free-type-vars a root) (listed-once a root) node-of
-    where
-      node-of : (v : ℕ) → contains (free-type-vars a root) v ≡ true → VarNode a v
-      node-of v e =
-          let P = listed-place v e in
-          let k = place-lower table a h (P .reached .place) l in
-          record { node = P .node; low = omega arith; is = P .is }
+pub listed-few : (table : ℕ) (a : Arena) → sound table a ≡ true → (root : ℕ) → root < length a → length (free-type-vars a root) ≤ length a
+listed-few table a h root l = vars-few a (free-type-vars a root) (listed-once a root) node-of
+  where
+    node-of : (v : ℕ) → contains (free-type-vars a root) v ≡ true → VarNode a v
+    node-of v e =
+        let P = listed-place table a h root l v e in
+        let k = place-lower table a h (P .reached .place) l in
+        record { node = P .node; low = omega arith; is = P .is }

@@ -1,18 +1,16 @@
 -- The variables of the type of a root, each once, in the order in which a walk from left to right first meets them (01, "arena").
 use Prim.Native.Nat.{ℕ}
-use mathlib.Core.Path.{_≡_}
-use mathlib.Core.Bool.{Bool, true, false, _||_}
+use mathlib.Core.Bool.{Bool, true, false, _||_, not, _&&_}
 use mathlib.Core.List.{List, [], _∷_, _++_, foldl, flatten}
 use lib.ListN.{length}
 use lib.Dec.{eqb}
 use Rattle.types.specs.Out.{Out, ok, refuse}
 use Rattle.types.specs.Node.{Tag, members, bound, var, neg, form}
 use Rattle.types.specs.Arena.{Arena, fold}
-use Rattle.types.specs.Memory.{padded, Holds}
-use Rattle.types.specs.declared.Counters.{Counters}
-use Rattle.walks.specs.Asked.{asking}
+use Rattle.types.specs.Memory.{padded}
 use Rattle.free_vars.specs.declared.VarList.{VarList}
 use Rattle.free_vars.specs.declared.FreeVars.{FreeVars}
+use Rattle.free_vars.specs.declared.Answer.{Answer}
 use Rattle.free_vars.specs.declared.Answer.the-variants as answer
 
 -- a variable has itself, and any other node what its children have, one after another
@@ -54,11 +52,22 @@ unfoldable pub free-list : Arena → ℕ → VarList
 unfolding free-type-vars
 free-list a root = record { vars = padded 4096 (free-type-vars a root); count = length (free-type-vars a root) }
 
--- the enum's cases, with the list that stands beside the enum: the variables listed; the number of a refusal, and an empty list
+-- the enum's cases, with the list that stands beside the enum: the variables listed; the number of a refusal
+abbrev pub listed-out : Answer → VarList → Out VarList
+listed-out answer.Listed l = ok l
+listed-out (answer.Refused e) l = refuse e
+
+-- what an answer says
+abbrev pub free-vars-out : FreeVars → Out VarList
+free-vars-out r = listed-out (r .answer) (r .list)
+
+-- the answer that says this and no more: of a refusal the list is empty. `free-vars-out` reads it back: the theorem `AnsweredOut`
 abbrev pub answered : Out VarList → FreeVars
 answered (ok l) = record { answer = answer.Listed; list = l }
 answered (refuse e) = record { answer = answer.Refused e; list = record { vars = padded 4096 []; count = 0 } }
 
--- r is the answer that follows 1 and 2, in any arena that memory holds
-pub record AnswersIn (w s : List ℕ) (c : Counters) (root : ℕ) (r : FreeVars) : Type 0 where
-  pub is : (table : ℕ) (a : Arena) → Holds table w s c a → r ≡ answered (asking free-list root a)
+-- is no variable there twice?
+unfoldable pub distinct : List ℕ → Bool
+unfolding contains
+distinct [] = true
+distinct (v ∷ l) = not (contains l v) && distinct l

@@ -1,2 +1,3 @@
 pub mod FreeVars
-pub mod Collect
+pub mod Theorems
+pub mod Inner

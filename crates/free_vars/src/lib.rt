@@ -1,20 +1,21 @@
 // The variables of a type, in the order in which a walk first meets them. Memory is only read.
 use bits::put;
 use bits::test;
-use node_reading::children::child_at;
-use node_reading::children::child_count;
+use node_reading::children::child_words;
 use node_store::stored::node_at;
 use soundness::Judged;
 use soundness::judge;
 use types::Counters;
 use types::arc_ty::Head;
+use types::arc_ty::child;
 use types::arc_ty::wide;
 ghost use mathlib.Core.Path.{_≡_};
 ghost use Rattle.types.specs.Out.{refuse};
-ghost use Rattle.node_store.specs.Stored.{Lent, InRange};
-ghost use Rattle.walks.specs.Asked.{ask-reply, Says};
-ghost use Rattle.free_vars.specs.FreeVars.{free-list, answered, AnswersIn};
-ghost use Rattle.free_vars.specs.Collect.{VarRoom, AddsVar, Collecting, Collects};
+ghost use Rattle.node_store.specs.Inner.Stored.{Lent, InRange};
+ghost use Rattle.walks.specs.Asked.{ask-reply};
+ghost use Rattle.walks.specs.Inner.Asked.{Says};
+ghost use Rattle.free_vars.specs.FreeVars.{free-list, answered};
+ghost use Rattle.free_vars.specs.Inner.{AnswersIn, VarRoom, AddsVar, Collecting, Collects};
 
 // Variables in the order of their first visit, and how many there are; zeros after them.
 pub struct VarList {
@@ -35,19 +36,19 @@ pub struct FreeVars {
     pub list: VarList,
 }
 
-// Lists the variable in a node's words behind the others, and marks the node.
+// Lists the variable in a node's body behind the others, and marks the node.
 fn add_var(
-    node: &[u32],
+    body: &[u32],
     number: u32,
     done: &mut [u64; 64],
     vars: &mut [u32; 4096],
     count: usize,
 ) -> usize
-    requires { ⌜ VarRoom (now node) number (now done) count ⌝ }
-    ensures { λ r. ⌜ AddsVar (now (node .entry)) number (now (done .entry)) (now (vars .entry)) count
+    requires { ⌜ VarRoom (now body) number (now done) count ⌝ }
+    ensures { λ r. ⌜ AddsVar (now (body .entry)) number (now (done .entry)) (now (vars .entry)) count
         (now (done .exit)) (now (vars .exit)) r ⌝ }
 {
-    vars[count] = node[1];
+    vars[count] = body[0];
     put(done, number);
     count + 1
 }
@@ -74,13 +75,13 @@ fn collect(
     let node = node_at(words, starts, c, wide(n));
     let head = Head { word: node[0] };
     if head.kind() == Head::TY_VAR {
-        return add_var(node, n, done, vars, count);
+        return add_var(&node[1..], n, done, vars, count);
     }
-    let children = child_count(node);
+    let body = child_words(node);
     let mut total = count;
     let mut i = 0;
-    while i < children {
-        total = collect(words, starts, c, child_at(node, i), done, vars, total);
+    while i < body.len() {
+        total = collect(words, starts, c, child(body[i]), done, vars, total);
         i += 1;
     }
     put(done, n);

@@ -28,6 +28,7 @@ use Rattle.copying.proofs.Rooms.{copy-room}
 use Rattle.compact.specs.Compact.{limited, source, cleared, empty, compacted, compact-reply}
 use Rattle.equal.specs.Equal.{Tree, over, label-of, tree-dec, tree, equal}
 use Rattle.equal.specs.Reply.{lent-to, equal-roots, equal-reply}
+use Rattle.lang_ty.specs.Theorems.{CompactEqual}
 
 -- ---- what a finished call was lent
 record Source (t w s : List ℕ) (c : Counters) (root : ℕ) (tw ts : List ℕ) (u : Arena) : Type 0 where
@@ -135,24 +136,23 @@ module _ (t w s : List ℕ) (c : Counters) (m : ℕ) (v r : List ℕ) (d : Count
       ∙ tabled-yes _ (names-of t) ns p ∙ judged-yes (length ns) v r d _ b K
       ∙ rooted-yes m (λ (x : Arena). rooted n (λ (y : Arena). ok (equal ns x m ns y n)) b) a l ∙ rooted-yes n (λ (y : Arena). ok (equal ns a m ns y n)) b k
 
-module _ (t w s : List ℕ) (c : Counters) (root : ℕ) (tw ts : List ℕ) (d : Counters) {m : ℕ} {d′ : Counters} {tw′ ts′ : List ℕ} where
-  -- a finished copy is equal to what was copied, under the same names
-  pub compact-equal : compact-reply t w s c root tw ts d ≡ reply (ok m) d′ tw′ ts′ → equal-reply t w s c root t tw′ ts′ d′ m ≡ ok true
-  unfolding compact-reply compacted equal tree has-room sound
-  compact-equal e = go (source t w s c root tw ts) refl e
-    where
-      answered : (u : Arena) → Source t w s c root tw ts u → Copied tw ts u root m d′ tw′ ts′ → equal-reply t w s c root t tw′ ts′ d′ m ≡ ok true
-      answered u S C =
-          let ns = S .names in
-          let g = S .holds .good in
-          let b = C .target in
-          let F = compact-sound (length tw) (length ts) (length ns) (S .few-starts) u g root m b (S .inside) (C .run) in
-          let R = copy-room (length tw) (length ts) (length ns) u g (suc root) root (omega arith) (S .inside) [] m b (both (le-leb 0 (length tw) (omega arith)) (le-leb 0 (length ts) (omega arith))) (C .run) in
-          let H = held (length ns) (length tw) (length ts) b (S .few-words) (S .few-starts) R F in
-          let K : Holds (length ns) tw′ ts′ d′ b = subst (λ (i : Counters). Holds (length ns) tw′ ts′ i b) (sym (C .counters)) (subst (λ (x : List ℕ). Holds (length ns) x ts′ (counters-of b) b) (sym (C .words)) (subst (λ (x : List ℕ). Holds (length ns) (words-of (length tw) b) x (counters-of b) b) (sym (C .starts)) H)) in
-          judged-equal t w s c root tw′ ts′ d′ m ns u b (S .is) (S .holds) (S .inside) K (compact-inside (length tw) (length ts) (length ns) (S .few-starts) u g root m b (S .inside) (C .run))
-          ∙ ap ok (same-if tree-dec (tree ns u root) (tree ns b m) (sym (compact-fold (length tw) (length ts) (length ns) (S .few-starts) u g root m b (S .inside) (C .run) (λ (x : Tag) (xs : List Tree). over (label-of ns x) xs))))
+-- a finished copy is equal to what was copied, under the same names
+pub compact-equal : CompactEqual
+unfolding compact-reply compacted equal tree has-room sound
+compact-equal t w s c root tw ts d m d′ tw′ ts′ e = go (source t w s c root tw ts) refl e
+  where
+    answered : (u : Arena) → Source t w s c root tw ts u → Copied tw ts u root m d′ tw′ ts′ → equal-reply t w s c root t tw′ ts′ d′ m ≡ ok true
+    answered u S C =
+        let ns = S .names in
+        let g = S .holds .good in
+        let b = C .target in
+        let F = compact-sound (length tw) (length ts) (length ns) (S .few-starts) u g root m b (S .inside) (C .run) in
+        let R = copy-room (length tw) (length ts) (length ns) u g (suc root) root (omega arith) (S .inside) [] m b (both (le-leb 0 (length tw) (omega arith)) (le-leb 0 (length ts) (omega arith))) (C .run) in
+        let H = held (length ns) (length tw) (length ts) b (S .few-words) (S .few-starts) R F in
+        let K : Holds (length ns) tw′ ts′ d′ b = subst (λ (i : Counters). Holds (length ns) tw′ ts′ i b) (sym (C .counters)) (subst (λ (x : List ℕ). Holds (length ns) x ts′ (counters-of b) b) (sym (C .words)) (subst (λ (x : List ℕ). Holds (length ns) (words-of (length tw) b) x (counters-of b) b) (sym (C .starts)) H)) in
+        judged-equal t w s c root tw′ ts′ d′ m ns u b (S .is) (S .holds) (S .inside) K (compact-inside (length tw) (length ts) (length ns) (S .few-starts) u g root m b (S .inside) (C .run))
+        ∙ ap ok (same-if tree-dec (tree ns u root) (tree ns b m) (sym (compact-fold (λ (x : Tag) (xs : List Tree). over (label-of ns x) xs) (length tw) (length ts) (length ns) u root m b (record { few = S .few-starts; good = g; inside = S .inside; run = C .run }))))
 
-      go : (o : Out Arena) → source t w s c root tw ts ≡ o → compacted root tw ts d o ≡ reply (ok m) d′ tw′ ts′ → equal-reply t w s c root t tw′ ts′ d′ m ≡ ok true
-      go (refuse n) p f = absurd (reply-not f)
-      go (ok u) p f = answered u (lent-so t w s c root tw ts u p) (copied-so tw ts u root f)
+    go : (o : Out Arena) → source t w s c root tw ts ≡ o → compacted root tw ts d o ≡ reply (ok m) d′ tw′ ts′ → equal-reply t w s c root t tw′ ts′ d′ m ≡ ok true
+    go (refuse n) p f = absurd (reply-not f)
+    go (ok u) p f = answered u (lent-so t w s c root tw ts u p) (copied-so tw ts u root f)

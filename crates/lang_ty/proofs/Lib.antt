@@ -4,3 +4,4 @@ pub mod Passes
 pub mod Works
 pub mod Successes
 pub mod Copies
+pub mod Needing

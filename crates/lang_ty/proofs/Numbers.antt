@@ -1,5 +1,5 @@
--- A refusal's number is never 0: that holds of each step that the definitions are made of, and so of a recursion whose every step keeps it.
-use Prim.Native.Nat.{ℕ, _<_}
+-- A refusal's number is from 1 to 10: that holds of each step that the definitions are made of, and so of a recursion whose every step keeps it.
+use Prim.Native.Nat.{ℕ, _<_, _≤_}
 use native.Mathlib.Omega.{arith}
 use mathlib.Core.Bool.{Bool, true, false}
 use mathlib.Core.List.{List, [], _∷_}
@@ -15,7 +15,10 @@ use Rattle.recursion.specs.Jobs.{Job, each, rebuild}
 use Rattle.lang_ty.specs.Numbered.{Numbered, value, refusal}
 
 pub refusal-high : {A : Type 0} {e : ℕ} → Numbered {A = A} (refuse e) → 0 < e
-refusal-high (refusal l) = omega (arith, l)
+refusal-high (refusal l m) = l
+
+pub refusal-low : {A : Type 0} {e : ℕ} → Numbered {A = A} (refuse e) → e ≤ 10
+refusal-low (refusal l m) = m
 
 -- whatever a test picks, if both have the property
 pub by-test : {Y : Type 0} (P : Y → Type 0) (b : Bool) {x y : Y} → P x → P y → P (elim b [ true ↦ x | false ↦ y ])
@@ -27,19 +30,19 @@ by-option P (some n) p q = p n
 by-option P none p q = q
 
 module _ {A : Type 0} where
-  pub required-numbered : {N : Type 0} {e : ℕ} → 0 < e → (o : Option N) {f : N → Out A} → ((n : N) → Numbered (f n)) → Numbered (required e o f)
+  pub required-numbered : {N : Type 0} {e : ℕ} → 0 < e → e ≤ 10 → (o : Option N) {f : N → Out A} → ((n : N) → Numbered (f n)) → Numbered (required e o f)
   unfolding required
-  required-numbered l none h = refusal l
-  required-numbered l (some n) h = h n
+  required-numbered l m none h = refusal l m
+  required-numbered l m (some n) h = h n
 
   pub then-numbered : {B : Type 0} {o : Out A} {f : A → Out B} → Numbered o → ((x : A) → Numbered (f x)) → Numbered (o >>= f)
   unfolding _>>=_
   then-numbered (value x) h = h x
-  then-numbered (refusal l) h = refusal l
+  then-numbered (refusal l m) h = refusal l m
 
   pub rooted-numbered : (root : ℕ) {f : Arena → Out A} → ((a : Arena) → Numbered (f a)) → (a : Arena) → Numbered (rooted root f a)
   unfolding rooted
-  rooted-numbered root h a = by-test Numbered (ltb root (length a)) (h a) (refusal (omega arith))
+  rooted-numbered root h a = by-test Numbered (ltb root (length a)) (h a) (refusal (omega arith) (omega arith))
 
 -- a recursion over an arena has a property that its every step keeps
 module _ {Y : Type 0} (P : Y → Type 0) {step : Arena → Node → (ℕ → Y) → Y} {y : Y} (base : P y) (keeps : (s : Arena) (x : Node) (f : ℕ → Y) → ((n : ℕ) → P (f n)) → P (step s x f)) where
@@ -60,7 +63,7 @@ each-numbered h (c ∷ cs) a = then-numbered (h c a) (λ r. then-numbered (each-
 module _ (words starts : ℕ) where
   pub intern-numbered : (x : Node) → NumberedJob (intern words starts x)
   unfolding intern
-  intern-numbered x a = by-option Numbered (find x a) (λ n. value (n, a)) (by-test Numbered (has-room words starts (x ∷ a)) (value (length a, x ∷ a)) (refusal (omega arith)))
+  intern-numbered x a = by-option Numbered (find x a) (λ n. value (n, a)) (by-test Numbered (has-room words starts (x ∷ a)) (value (length a, x ∷ a)) (refusal (omega arith) (omega arith)))
 
   pub rebuild-numbered : (t : Tag) (cs : List ℕ) {f : ℕ → Job} → ((c : ℕ) → NumberedJob (f c)) → NumberedJob (rebuild words starts t cs f)
   unfolding rebuild

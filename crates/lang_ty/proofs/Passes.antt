@@ -1,4 +1,4 @@
--- A refusal of `simplify` never has the number 0: each step of a pass keeps it so, and so do the passes.
+-- A refusal of `simplify` has a number from 1 to 10: each step of a pass keeps it so, and so do the passes.
 use Prim.Native.Nat.{ℕ, zero, suc}
 use native.Mathlib.Omega.{arith}
 use mathlib.Core.Bool.{Bool}
@@ -18,7 +18,7 @@ use Rattle.lang_ty.proofs.Numbers.{NumberedJob, by-test, by-option, the
 -- ---- member lists: 8
 append-numbered : (m : ℕ) (acc : List ℕ) → Numbered (append m acc)
 unfolding append
-append-numbered m acc = by-test Numbered (one-of (eqb m) acc) (value acc) (by-test Numbered (ltb (length acc) 64) (value (acc ++ (m ∷ []))) (refusal (omega arith)))
+append-numbered m acc = by-test Numbered (one-of (eqb m) acc) (value acc) (by-test Numbered (ltb (length acc) 64) (value (acc ++ (m ∷ []))) (refusal (omega arith) (omega arith)))
 
 pub first-copies-numbered : (acc ms : List ℕ) → Numbered (first-copies acc ms)
 unfolding first-copies
@@ -48,7 +48,7 @@ module _ (words starts : ℕ) where
 
   pass-numbered : (root : ℕ) → NumberedJob (pass words starts root)
   unfolding pass apply
-  pass-numbered root a = rec-all (λ (f : (ℕ → Bool) → Job). (R : ℕ → Bool) → NumberedJob (f R)) (λ R b. refusal (omega arith)) step-numbered a root (one-signed a root) a
+  pass-numbered root a = rec-all (λ (f : (ℕ → Bool) → Job). (R : ℕ → Bool) → NumberedJob (f R)) (λ R b. refusal (omega arith) (omega arith)) step-numbered a root (one-signed a root) a
 
   passes-numbered : (n root : ℕ) (a : Arena) → Numbered (passes words starts n root a)
   unfolding passes

@@ -1,10 +1,10 @@
--- 0 means success, of every call that can be refused: after the numbers that calls share, 1, 2 and 6, come those of the call's own.
+-- 0 means success, and a refusal's number is at most 10, of every call that can be refused: after the numbers that calls share, 1, 2 and 6, come those of the call's own.
 use Prim.Native.Nat.{ℕ, min}
 use native.Mathlib.Omega.{arith}
 use mathlib.Core.Path.{_≡_}
 use mathlib.Core.List.{List, []}
 use lib.ListN.{length}
-use lib.Dec.{leb}
+use lib.Dec.{ltb, leb}
 use Rattle.types.specs.Out.{Out, ok, refuse}
 use Rattle.types.specs.Node.{tag, names, guess, is-words, linked, rising, decode}
 use Rattle.types.specs.Arena.{Arena, at}
@@ -12,7 +12,7 @@ use Rattle.types.specs.Memory.{arena-of}
 use Rattle.types.specs.Reply.{Reply, reply, reply-of, tabled, judged}
 use Rattle.types.specs.declared.Counters.{Counters}
 use Rattle.names.specs.Table.{Name, split, names-of}
-use Rattle.names.specs.Reply.{table-reply}
+use Rattle.names.specs.Reply.{table-reply, stretch, name-reply}
 use Rattle.node_order.specs.NodeOrder.{node-order}
 use Rattle.arena.specs.Intern.{interning, intern-reply}
 use Rattle.arena.specs.Compare.{comparing, compare-reply}
@@ -21,15 +21,18 @@ use Rattle.equal.specs.Equal.{equal}
 use Rattle.equal.specs.Reply.{lent-to, equal-roots, equal-reply}
 use Rattle.text_writing.specs.Text.{type-text}
 use Rattle.display.specs.Reply.{displaying, display-reply, reply-of as display-of}
+use Rattle.sheet_writing.specs.Reply.{bytes-with, fitting, write-sheet-reply, reply-of as sheet-of}
 use Rattle.recursion.proofs.Answers.{ok-refuse}
 use Rattle.recursion.specs.Hosted.{Work, work-reply}
 use Rattle.renumber.specs.Renumber.{normalize}
 use Rattle.set_op_lists.specs.SetOps.{normalize-set-ops}
 use Rattle.simplify.specs.Simplify.{answered, simplify-reply}
 use Rattle.compact.specs.Compact.{over-limit, limited, cleared, empty, source, compacted, compact-reply}
-use Rattle.lang_ty.specs.Told.{as-number, told, tell, told-arena, tell-arena}
-use Rattle.lang_ty.specs.Numbered.{Numbered, value, refusal, answer-of, length-of, ZeroIsValue, AllNumbered}
-use Rattle.lang_ty.proofs.Numbers.{NumberedJob, refusal-high, by-test, required-numbered, then-numbered, rooted-numbered, intern-numbered}
+use Rattle.lang_ty.specs.Theorems.{ToldZero, ArenaZero}
+use Rattle.lang_ty.specs.Told.{as-number}
+use Rattle.lang_ty.specs.Numbered.{Numbered, value, refusal, answer-of, length-of}
+use Rattle.lang_ty.specs.Theorems.{AllNumbered}
+use Rattle.lang_ty.proofs.Numbers.{NumberedJob, refusal-high, refusal-low, by-test, required-numbered, then-numbered, rooted-numbered, intern-numbered}
 use Rattle.lang_ty.proofs.Passes.{simplify-numbered}
 use Rattle.lang_ty.proofs.Works.{normalize-numbered, set-ops-numbered, copy-numbered}
 
@@ -37,18 +40,22 @@ use Rattle.lang_ty.proofs.Works.{normalize-numbered, set-ops-numbered, 
 module _ {A : Type 0} (t w s : List ℕ) (c : Counters) {f : List Name → Arena → Out A} (h : (ns : List Name) (a : Arena) → Numbered (f ns a)) where
   lent-numbered : Numbered (tabled (names-of t) (λ (ns : List Name). judged (length ns) w s c (f ns)))
   unfolding tabled judged
-  lent-numbered = required-numbered (omega arith) (names-of t) (λ ns. required-numbered (omega arith) (arena-of (length ns) w s c) (h ns))
+  lent-numbered = required-numbered (omega arith) (omega arith) (names-of t) (λ ns. required-numbered (omega arith) (omega arith) (arena-of (length ns) w s c) (h ns))
 
 -- what is answered and left
 reply-numbered : {A : Type 0} (w s : List ℕ) (c : Counters) {o : Out (A × Arena)} → Numbered o → Numbered (answer-of (reply-of w s c o))
 unfolding reply-of
 reply-numbered w s c (value r) = value (r .0)
-reply-numbered w s c (refusal l) = refusal l
+reply-numbered w s c (refusal l m) = refusal l m
 
 -- ---- calls that only read
 pub table-numbered : (t : List ℕ) → Numbered (table-reply t)
 unfolding table-reply
-table-numbered t = required-numbered (omega arith) (names-of t) (λ ns. value (length ns))
+table-numbered t = required-numbered (omega arith) (omega arith) (names-of t) (λ ns. value (length ns))
+
+name-numbered : (t : List ℕ) (number : ℕ) → Numbered (name-reply t number)
+unfolding name-reply
+name-numbered t number = required-numbered (omega arith) (omega arith) (names-of t) (λ ns. by-test Numbered (ltb number (length ns)) (value (stretch ns number)) (refusal (omega arith) (omega arith)))
 
 pub compare-numbered : (t w s : List ℕ) (c : Counters) (m n : ℕ) → Numbered (compare-reply t w s c m n)
 unfolding compare-reply comparing
@@ -66,12 +73,25 @@ equal-numbered t w s c m u v r d n =
 -- 9 comes last
 display-of-numbered : (b : List ℕ) {o : Out (List ℕ)} → Numbered o → Numbered (length-of (display-of b o))
 unfolding display-of displaying
-display-of-numbered b (value x) = by-test (λ r. Numbered (length-of r)) (leb (length x) (min (length b) 65536)) (value (length x)) (refusal (omega arith))
-display-of-numbered b (refusal l) = refusal l
+display-of-numbered b (value x) = by-test (λ r. Numbered (length-of r)) (leb (length x) (min (length b) 65536)) (value (length x)) (refusal (omega arith) (omega arith))
+display-of-numbered b (refusal l m) = refusal l m
 
 pub display-numbered : (t w s : List ℕ) (c : Counters) (root : ℕ) (b : List ℕ) → Numbered (length-of (display-reply t w s c root b))
 unfolding display-reply
 display-numbered t w s c root b = display-of-numbered b (ask-numbered (type-text (split t)) t w s c root)
+
+fitting-numbered : (b x : List ℕ) → Numbered (fitting b x)
+unfolding fitting
+fitting-numbered b x = by-test Numbered (leb (length x) (min (length b) 65536)) (value x) (refusal (omega arith) (omega arith))
+
+sheet-of-numbered : (b : List ℕ) {o : Out (List ℕ)} → Numbered o → Numbered (length-of (sheet-of b o))
+unfolding sheet-of
+sheet-of-numbered b (value x) = value (length x)
+sheet-of-numbered b (refusal l h) = refusal l h
+
+pub write-sheet-numbered : (t w s : List ℕ) (c : Counters) (root : ℕ) (b : List ℕ) → Numbered (length-of (write-sheet-reply t w s c root b))
+unfolding write-sheet-reply
+write-sheet-numbered t w s c root b = sheet-of-numbered b (then-numbered (ask-numbered (bytes-with (split t)) t w s c root) (fitting-numbered b))
 
 -- an answer told as a number
 pub as-number-numbered : {A : Type 0} (f : A → ℕ) {o : Out A} → Numbered o → Numbered (as-number f o)
@@ -82,8 +102,8 @@ decode-numbered : (table nodes : ℕ) (ws : List ℕ) → Numbered (decode table
 unfolding decode
 decode-numbered table nodes ws =
     by-test Numbered (is-words ws (guess ws))
-    (by-test Numbered (linked table nodes (guess ws)) (by-test Numbered (rising (names (tag (guess ws)))) (value (guess ws)) (refusal (omega arith))) (refusal (omega arith)))
-    (refusal (omega arith))
+    (by-test Numbered (linked table nodes (guess ws)) (by-test Numbered (rising (names (tag (guess ws)))) (value (guess ws)) (refusal (omega arith) (omega arith))) (refusal (omega arith) (omega arith)))
+    (refusal (omega arith) (omega arith))
 
 pub intern-reply-numbered : (t w s : List ℕ) (c : Counters) (ws : List ℕ) → Numbered (answer-of (intern-reply t w s c ws))
 unfolding intern-reply interning
@@ -101,12 +121,12 @@ work-numbered f h t w s c root = reply-numbered w s c (lent-numbered t w s c (λ
 -- ---- `compact`, whose target may be over a limit
 source-numbered : (t w s : List ℕ) (c : Counters) (root : ℕ) (tw ts : List ℕ) → Numbered (source t w s c root tw ts)
 unfolding source limited
-source-numbered t w s c root tw ts = lent-numbered t w s c (λ ns u. by-test Numbered (over-limit tw ts) (refusal (omega arith)) (rooted-numbered root (λ a. value a) u))
+source-numbered t w s c root tw ts = lent-numbered t w s c (λ ns u. by-test Numbered (over-limit tw ts) (refusal (omega arith) (omega arith)) (rooted-numbered root (λ a. value a) u))
 
 compacted-numbered : (root : ℕ) (tw ts : List ℕ) (d : Counters) {o : Out Arena} → Numbered o → Numbered (answer-of (compacted root tw ts d o))
 unfolding compacted
 compacted-numbered root tw ts d (value u) = reply-numbered (cleared tw) (cleared ts) empty (copy-numbered (length tw) (length ts) u root [])
-compacted-numbered root tw ts d (refusal l) = refusal l
+compacted-numbered root tw ts d (refusal l m) = refusal l m
 
 pub compact-numbered : (t w s : List ℕ) (c : Counters) (root : ℕ) (tw ts : List ℕ) (d : Counters) → Numbered (answer-of (compact-reply t w s c root tw ts d))
 unfolding compact-reply
@@ -116,10 +136,12 @@ compact-numbered t w s c root tw ts d = compacted-numbered root tw ts d (source-
 pub all-numbered : AllNumbered
 all-numbered = record {
   table = table-numbered;
+  name = name-numbered;
   compare = compare-numbered;
   ask = ask-numbered;
   equal = equal-numbered;
   display = display-numbered;
+  write-sheet = write-sheet-numbered;
   intern = intern-reply-numbered;
   simplify = simplify-reply-numbered;
   normalize-vars = λ replacing. work-numbered (normalize replacing) (λ words starts. normalize-numbered words starts replacing);
@@ -128,11 +150,11 @@ all-numbered = record {
 }
 
 -- ---- what a host knows of the number that it is told
-pub told-zero : {A : Type 0} (old : A) (o : Out A) → Numbered o → {r : ℕ} {x : A} → told r x ≡ tell old o → ZeroIsValue r x o
-told-zero old (ok y) N e = record { zero = λ q. cc; value = λ z q. cc }
-told-zero old (refuse n) N {r = r} e =
+pub told-zero : {A : Type 0} (old : A) (o : Out A) {r : ℕ} {x : A} → ToldZero old o r x
+told-zero old (ok y) {r = r} N e = let p : r ≡ 0 = cc in record { zero = λ q. cc; value = λ z q. cc; most = omega arith }
+told-zero old (refuse n) {r = r} N e =
     let p : r ≡ n = cc in
-    record { zero = λ q. absurd (omega (arith, p, q, refusal-high N)); value = λ z q. absurd (ok-refuse q) }
+    record { zero = λ q. absurd (omega (arith, p, q, refusal-high N)); value = λ z q. absurd (ok-refuse q); most = omega (arith, p, refusal-low N) }
 
-pub arena-zero : {A : Type 0} (old : A) (y : Reply A) → Numbered (answer-of y) → {r : ℕ} {x : A} {d : Counters} {w s : List ℕ} → told-arena r x d w s ≡ tell-arena old y → ZeroIsValue r x (answer-of y)
+pub arena-zero : {A : Type 0} (old : A) (y : Reply A) {r : ℕ} {x : A} {d : Counters} {w s : List ℕ} → ArenaZero old y r x d w s
 arena-zero old (reply o c v u) N e = told-zero old o N (cc)

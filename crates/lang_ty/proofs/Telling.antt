@@ -14,8 +14,12 @@ module _ {R A : Type 0} (f : R → Out A) {r : R} {o : Out A} (e : f r ≡ o) {s
   pub tell-ok : {x : A} → f s ≡ ok x → (old : A) → told 0 x ≡ tell old o
   tell-ok g old = sym (ap (tell old) (known g))
 
-  pub tell-refused : {n : ℕ} → f s ≡ refuse n → (old : A) → told n old ≡ tell old o
-  tell-refused g old = sym (ap (tell old) (known g))
+  -- a refusal is told by the number that was read off it
+  by-number : {n : ℕ} → f s ≡ refuse n → {u : ℕ} → u ≡ number (f r) → u ≡ n
+  by-number g k = k ∙ ap number (ap f p ∙ g)
+
+  pub tell-refused : {n : ℕ} → f s ≡ refuse n → {u : ℕ} → u ≡ number (f r) → (old : A) → told u old ≡ tell old o
+  tell-refused g k old = ap (λ (m : ℕ). told m old) (by-number g k) ∙ sym (ap (tell old) (known g))
 
   -- the same where the answer is told as a number
   module _ (g : A → ℕ) where
@@ -23,9 +27,9 @@ module _ {R A : Type 0} (f : R → Out A) {r : R} {o : Out A} (e : f r ≡ o) {s
     unfolding _>>=_
     tell-number u h old = ap (told 0) h ∙ sym (ap (λ (q : Out A). tell old (as-number g q)) (known u))
 
-    pub tell-no-number : {n : ℕ} → f s ≡ refuse n → (old : ℕ) → told n old ≡ tell old (as-number g o)
+    pub tell-no-number : {n : ℕ} → f s ≡ refuse n → {u : ℕ} → u ≡ number (f r) → (old : ℕ) → told u old ≡ tell old (as-number g o)
     unfolding _>>=_
-    tell-no-number u old = sym (ap (λ (q : Out A). tell old (as-number g q)) (known u))
+    tell-no-number h k old = ap (λ (m : ℕ). told m old) (by-number h k) ∙ sym (ap (λ (q : Out A). tell old (as-number g q)) (known h))
 
 -- an answer of an enum, its case v, in the reply of a call that changes an arena
 module _ {E : Type 0} (f : E → Out ℕ) {a : E} {d : Counters} {w s : List ℕ} {y : Reply ℕ} (h : reply (f a) d w s ≡ y) (old : ℕ) where

@@ -1,4 +1,4 @@
--- A refusal of `normalize_vars`, `normalize_replacing_unknown`, `normalize_set_ops` and of a copy never has the number 0.
+-- A refusal of `normalize_vars`, `normalize_replacing_unknown`, `normalize_set_ops` and of a copy has a number from 1 to 10.
 use Prim.Native.Nat.{ℕ}
 use native.Mathlib.Omega.{arith}
 use mathlib.Core.Bool.{Bool, true, false}
@@ -10,18 +10,19 @@ use Rattle.types.specs.Arena.{Arena, at}
 use Rattle.recursion.specs.Jobs.{Job}
 use Rattle.free_vars.specs.FreeVars.{free-type-vars}
 use Rattle.renumbering.specs.Renumbered.{index, var-number, var-node, renumber-step, renumbered}
-use Rattle.renumber.specs.Renumber.{by-vars, normalize-vars, unknown, normalize}
+use Rattle.types.specs.Tyvar.{unknown}
+use Rattle.renumber.specs.Renumber.{by-vars, normalize-vars, normalize}
 use Rattle.simplification.specs.Pass.{list-kind}
 use Rattle.member_sorting.specs.Sort.{sort}
-use Rattle.set_op_lists.specs.SetOps.{brings, flatten, stand-for, set-ops-step, normalize-set-ops, normalize as normalize-lists}
+use Rattle.set_op_lists.specs.SetOps.{brings, flatten-set-op, stand-for, set-ops-step, normalize-set-ops, normalize as normalize-lists}
 use Rattle.copying.specs.Copy.{copy}
 use Rattle.lang_ty.specs.Numbered.{Numbered, value, refusal}
 use Rattle.lang_ty.proofs.Numbers.{NumberedJob, by-test, by-option, then-numbered, rec-all, intern-numbered, rebuild-numbered}
 use Rattle.lang_ty.proofs.Passes.{first-copies-numbered}
 
 -- ---- the members of a list, appended as they come: 8
-flatten-numbered : (k : Polarity) (f : ℕ → Job) → ((n : ℕ) → NumberedJob (f n)) → (acc cs : List ℕ) (a : Arena) → Numbered (flatten k f acc cs a)
-unfolding flatten
+flatten-numbered : (k : Polarity) (f : ℕ → Job) → ((n : ℕ) → NumberedJob (f n)) → (acc cs : List ℕ) (a : Arena) → Numbered (flatten-set-op k f acc cs a)
+unfolding flatten-set-op
 flatten-numbered k f h acc [] a = value (acc, a)
 flatten-numbered k f h acc (c ∷ cs) a = then-numbered (h c a) (λ r. then-numbered (first-copies-numbered acc (brings k (r .0) (at (r .1) (r .0)))) (λ l. flatten-numbered k f h l cs (r .1)))
 
@@ -34,7 +35,7 @@ module _ (words starts : ℕ) where
   by-vars-numbered : (root : ℕ) (vars : List ℕ) → NumberedJob (by-vars words starts root vars)
   unfolding by-vars renumbered
   by-vars-numbered root [] a = value (root, a)
-  by-vars-numbered root (v ∷ vs) a = rec-all NumberedJob (λ b. refusal (omega arith)) (renumber-step-numbered (v ∷ vs)) a root a
+  by-vars-numbered root (v ∷ vs) a = rec-all NumberedJob (λ b. refusal (omega arith) (omega arith)) (renumber-step-numbered (v ∷ vs)) a root a
 
   normalize-vars-numbered : (root : ℕ) → NumberedJob (normalize-vars words starts root)
   unfolding normalize-vars
@@ -57,9 +58,9 @@ module _ (words starts : ℕ) where
 
   pub set-ops-numbered : (root : ℕ) → NumberedJob (normalize-set-ops words starts root)
   unfolding normalize-set-ops normalize-lists
-  set-ops-numbered root a = rec-all NumberedJob (λ b. refusal (omega arith)) set-ops-step-numbered a root a
+  set-ops-numbered root a = rec-all NumberedJob (λ b. refusal (omega arith) (omega arith)) set-ops-step-numbered a root a
 
   -- ---- a copy
   pub copy-numbered : (u : Arena) (root : ℕ) → NumberedJob (copy words starts u root)
   unfolding copy
-  copy-numbered u root = rec-all NumberedJob (λ b. refusal (omega arith)) (λ s x f h. rebuild-numbered words starts (tag x) (children x) h) u root
+  copy-numbered u root = rec-all NumberedJob (λ b. refusal (omega arith) (omega arith)) (λ s x f h. rebuild-numbered words starts (tag x) (children x) h) u root

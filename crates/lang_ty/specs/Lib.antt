@@ -1,2 +1,4 @@
 pub mod Told
 pub mod Numbered
+pub mod Needs
+pub mod Theorems

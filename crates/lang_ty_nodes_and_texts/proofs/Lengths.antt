@@ -1,19 +1,30 @@
--- What is told of a text: its length, and its bytes beside it.
+-- What is told of a text or a sheet: its length, and its bytes beside it.
 use Prim.Native.Nat.{ℕ}
 use mathlib.Core.Path.{_≡_, sym, ap, _∙_}
 use mathlib.Core.List.{List}
-use Rattle.display.specs.Reply as text
+use Rattle.types.specs.Out.{Out}
+use Rattle.display.specs.Reply.{Reply, reply, displayed-out}
 use Rattle.display.specs.declared.Displayed.{Displayed}
 use Rattle.display.specs.declared.Displayed.the-variants as displayed
+use Rattle.sheet_writing.specs.Reply.{written-out}
+use Rattle.sheet_writing.specs.declared.Written.{Written}
+use Rattle.sheet_writing.specs.declared.Written.the-variants as written
 use Rattle.lang_ty.specs.Told.{told-text, tell-text}
 
--- the bytes of a text stand beside its length
-module _ {r : Displayed} {b : List ℕ} {y : text.Reply} (e : text.left r b ≡ y) (old : ℕ) where
-  text-told : {s : Displayed} → r ≡ s → tell-text old (text.left s b) ≡ tell-text old y
-  text-told p = ap (λ (d : Displayed). tell-text old (text.left d b)) (sym p) ∙ ap (tell-text old) e
+-- the bytes stand beside the length, whatever the enum of the answer
+bytes-told : {A : Type 0} (out : A → Out ℕ) {r : A} {b : List ℕ} {y : Reply} → reply (out r) b ≡ y → (old : ℕ) {s : A} → r ≡ s → tell-text old (reply (out s) b) ≡ tell-text old y
+bytes-told {A} out {b = b} e old p = ap (λ (d : A). tell-text old (reply (out d) b)) (sym p) ∙ ap (tell-text old) e
 
+module _ {r : Displayed} {b : List ℕ} {y : Reply} (e : reply (displayed-out r) b ≡ y) (old : ℕ) where
   pub tell-length : {n : ℕ} → r ≡ displayed.Text n → told-text 0 n b ≡ tell-text old y
-  tell-length = text-told
+  tell-length = bytes-told displayed-out e old
 
   pub tell-no-length : {n : ℕ} → r ≡ displayed.Refused n → told-text n old b ≡ tell-text old y
-  tell-no-length = text-told
+  tell-no-length = bytes-told displayed-out e old
+
+module _ {r : Written} {b : List ℕ} {y : Reply} (e : reply (written-out r) b ≡ y) (old : ℕ) where
+  pub tell-size : {n : ℕ} → r ≡ written.Sheet n → told-text 0 n b ≡ tell-text old y
+  tell-size = bytes-told written-out e old
+
+  pub tell-no-size : {n : ℕ} → r ≡ written.Refused n → told-text n old b ≡ tell-text old y
+  tell-no-size = bytes-told written-out e old

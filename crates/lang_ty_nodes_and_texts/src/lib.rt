@@ -7,21 +7,27 @@ use display::Displayed;
 use display::display;
 use lent_counters::Stored;
 use lent_counters::intern_lent_pair;
+use names::Placed;
 use names::Table;
 use names::check_names;
+use names::name_stretch;
 use sheet_format::sheet_line;
+use sheet_writing::Written;
+use sheet_writing::write_sheet;
 use types::Counters;
 use types::Ordering;
 use types::arc_ty::tyvar_name;
 ghost use mathlib.Core.Path.{_≡_};
+ghost use Rattle.types.specs.Out.{number as refusal-number};
 ghost use Rattle.types.specs.Short.{short-text};
 ghost use Rattle.types.specs.Tyvar.{tyvar-name};
 ghost use Rattle.names.specs.Table.{name-order};
-ghost use Rattle.names.specs.Reply.{table-reply};
+ghost use Rattle.names.specs.Reply.{table-reply, table-out, name-reply, placed-out};
 ghost use Rattle.arena.specs.Intern.{intern-reply};
-ghost use Rattle.arena.specs.Compare.{compare-reply};
+ghost use Rattle.arena.specs.Compare.{compare-reply, compared-out};
 ghost use Rattle.display.specs.Reply.{display-reply};
-ghost use Rattle.sheet_format.specs.Answers.{WritesLine};
+ghost use Rattle.sheet_writing.specs.Reply.{write-sheet-reply, written-out};
+ghost use Rattle.sheet_format.specs.Line.{WritesLine};
 ghost use Rattle.lang_ty.specs.Told.{told, tell, told-arena, tell-arena, told-text, tell-text, as-number, order-number};
 
 // The number of the node with these words, which is added where the arena has none.
@@ -41,12 +47,20 @@ pub extern "C" fn lang_ty_intern(
         record { nodes = now (nodes .entry); words = now (used .entry) } (now (node .entry))) ⌝ }
 {
     let answer = intern_lent_pair(table, words, starts, nodes, used, node);
+    let Stored::Node(n) = answer else {
+        return answer.refusal();
+    };
+    *number = n;
+    0
+}
+
+// The number of a refused table.
+fn table_refusal(answer: Table) -> u32
+    ensures { λ r. ⌜ r ≡ refusal-number (table-out answer) ⌝ }
+{
     match answer {
-        Stored::Node(n) => {
-            *number = n;
-            0
-        }
-        Stored::Refused(e) => e,
+        Table::Names(_) => 0,
+        Table::Refused(e) => e,
     }
 }
 
@@ -56,13 +70,41 @@ pub extern "C" fn lang_ty_check_names(table: &[u8], count: &mut usize) -> u32
     ensures { λ r. ⌜ told r (now (count .exit)) ≡ tell (now (count .entry)) (table-reply (now (table .entry))) ⌝ }
 {
     let answer = check_names(table);
+    let Table::Names(n) = answer else {
+        return table_refusal(answer);
+    };
+    *count = n;
+    0
+}
+
+// The number of a refused name.
+fn placed_refusal(answer: Placed) -> u32
+    ensures { λ r. ⌜ r ≡ refusal-number (placed-out answer) ⌝ }
+{
     match answer {
-        Table::Names(n) => {
-            *count = n;
-            0
-        }
-        Table::Refused(e) => e,
+        Placed::At(_) => 0,
+        Placed::Refused(e) => e,
     }
+}
+
+// Where the text of the name with this number lies in the table.
+#[no_mangle]
+pub extern "C" fn lang_ty_name_at(
+    table: &[u8],
+    number: u32,
+    start: &mut usize,
+    length: &mut usize,
+) -> u32
+    ensures { λ r. ⌜ told r record { start = now (start .exit); length = now (length .exit) }
+        ≡ tell record { start = now (start .entry); length = now (length .entry) } (name-reply (now (table .entry)) number) ⌝ }
+{
+    let answer = name_stretch(table, number);
+    let Placed::At(text) = answer else {
+        return placed_refusal(answer);
+    };
+    *start = text.start;
+    *length = text.length;
+    0
 }
 
 // 0, 1 and 2: before, the same, after.
@@ -85,6 +127,16 @@ pub extern "C" fn lang_ty_compare_names(left: &[u8], right: &[u8], order: &mut u
     0
 }
 
+// The number of a refused comparison.
+fn compared_refusal(answer: Compared) -> u32
+    ensures { λ r. ⌜ r ≡ refusal-number (compared-out answer) ⌝ }
+{
+    match answer {
+        Compared::Stand(_) => 0,
+        Compared::Refused(e) => e,
+    }
+}
+
 // How two nodes stand in order.
 #[no_mangle]
 pub extern "C" fn lang_ty_compare(
@@ -103,13 +155,11 @@ pub extern "C" fn lang_ty_compare(
 {
     let c = Counters { nodes, words: used };
     let answer = compare(table, words, starts, c, left, right);
-    match answer {
-        Compared::Stand(o) => {
-            *order = order_number(o);
-            0
-        }
-        Compared::Refused(e) => e,
-    }
+    let Compared::Stand(o) = answer else {
+        return compared_refusal(answer);
+    };
+    *order = order_number(o);
+    0
 }
 
 // How a type variable is printed: the text, zeros after it, and its length.
@@ -142,13 +192,46 @@ pub extern "C" fn lang_ty_display(
 {
     let c = Counters { nodes, words: used };
     let answer = display(table, words, starts, c, root, text);
+    let Displayed::Text(n) = answer else {
+        return answer.refusal();
+    };
+    *len = n;
+    0
+}
+
+// The number of a refused sheet.
+fn written_refusal(answer: Written) -> u32
+    ensures { λ r. ⌜ r ≡ refusal-number (written-out answer) ⌝ }
+{
     match answer {
-        Displayed::Text(n) => {
-            *len = n;
-            0
-        }
-        Displayed::Refused(e) => e,
+        Written::Sheet(_) => 0,
+        Written::Refused(e) => e,
     }
+}
+
+// The sheet of the table's names, the arena and the root.
+#[no_mangle]
+pub extern "C" fn lang_ty_write_sheet(
+    table: &[u8],
+    words: &[u32],
+    starts: &[u32],
+    nodes: usize,
+    used: usize,
+    root: u32,
+    bytes: &mut [u8],
+    len: &mut usize,
+) -> u32
+    ensures { λ r. ⌜ told-text r (now (len .exit)) (now (bytes .exit))
+        ≡ tell-text (now (len .entry)) (write-sheet-reply (now (table .entry)) (now (words .entry)) (now (starts .entry))
+        record { nodes = nodes; words = used } root (now (bytes .entry))) ⌝ }
+{
+    let c = Counters { nodes, words: used };
+    let answer = write_sheet(table, words, starts, c, root, bytes);
+    let Written::Sheet(size) = answer else {
+        return written_refusal(answer);
+    };
+    *len = size;
+    0
 }
 
 // The line of a sheet, and how many bytes it has.

@@ -16,26 +16,35 @@ use walks::reach::Counted;
 use walks::reach::count_reachable;
 ghost use mathlib.Core.Path.{_≡_};
 ghost use Rattle.words.specs.Words.{bit};
+ghost use Rattle.types.specs.Out.{number as refusal-number};
 ghost use Rattle.walks.specs.Asked.{ask-reply};
-ghost use Rattle.walks.specs.Reach.{reach-count};
+ghost use Rattle.walks.specs.Reach.{reach-count, counted-out};
 ghost use Rattle.questions.specs.Vars.{has-type-vars, contains-bare-tyvar, asked-out};
 ghost use Rattle.questions.specs.Lambdas.{has-shared-tyvar-across-lambda-params};
-ghost use Rattle.questions.specs.Named.{unwrap-named};
+ghost use Rattle.questions.specs.Named.{unwrap-named, unwrapped-out};
 ghost use Rattle.free_vars.specs.FreeVars.{free-list};
 ghost use Rattle.equal.specs.Reply.{equal-reply};
 ghost use Rattle.lang_ty.specs.Told.{told, tell, as-number};
+
+// The number of a refused question.
+fn asked_refusal(answer: Asked) -> u32
+    ensures { λ r. ⌜ r ≡ refusal-number (asked-out answer) ⌝ }
+{
+    match answer {
+        Asked::Is(_) => 0,
+        Asked::Refused(e) => e,
+    }
+}
 
 // A yes or no, told to a host.
 fn tell_asked(answer: Asked, is: &mut u32) -> u32
     ensures { λ r. ⌜ told r (now (is .exit)) ≡ tell (now (is .entry)) (as-number bit (asked-out answer)) ⌝ }
 {
-    match answer {
-        Asked::Is(so) => {
-            *is = so as u32;
-            0
-        }
-        Asked::Refused(e) => e,
-    }
+    let Asked::Is(so) = answer else {
+        return asked_refusal(answer);
+    };
+    *is = so as u32;
+    0
 }
 
 #[no_mangle]
@@ -113,6 +122,16 @@ pub extern "C" fn lang_ty_has_shared_tyvar_across_lambda_params(
     )
 }
 
+// The number of a refused root.
+fn unwrapped_refusal(answer: Unwrapped) -> u32
+    ensures { λ r. ⌜ r ≡ refusal-number (unwrapped-out answer) ⌝ }
+{
+    match answer {
+        Unwrapped::Node(_) => 0,
+        Unwrapped::Refused(e) => e,
+    }
+}
+
 // What the root stands for.
 #[no_mangle]
 pub extern "C" fn lang_ty_unwrap_named(
@@ -130,12 +149,20 @@ pub extern "C" fn lang_ty_unwrap_named(
 {
     let c = Counters { nodes, words: used };
     let answer = unwrap_named(table, words, starts, c, root);
+    let Unwrapped::Node(n) = answer else {
+        return unwrapped_refusal(answer);
+    };
+    *number = n as u32;
+    0
+}
+
+// The number of a refused count.
+fn counted_refusal(answer: Counted) -> u32
+    ensures { λ r. ⌜ r ≡ refusal-number (counted-out answer) ⌝ }
+{
     match answer {
-        Unwrapped::Node(n) => {
-            *number = n as u32;
-            0
-        }
-        Unwrapped::Refused(e) => e,
+        Counted::Nodes(_) => 0,
+        Counted::Refused(e) => e,
     }
 }
 
@@ -156,13 +183,11 @@ pub extern "C" fn lang_ty_count_reachable(
 {
     let c = Counters { nodes, words: used };
     let answer = count_reachable(table, words, starts, c, root);
-    match answer {
-        Counted::Nodes(n) => {
-            *count = n;
-            0
-        }
-        Counted::Refused(e) => e,
-    }
+    let Counted::Nodes(n) = answer else {
+        return counted_refusal(answer);
+    };
+    *count = n;
+    0
 }
 
 // The variables of the type of the root, in the order of a first visit.
@@ -184,16 +209,14 @@ pub extern "C" fn lang_ty_free_type_vars(
     let c = Counters { nodes, words: used };
     let r = free_type_vars(table, words, starts, c, root);
     let answer = r.answer;
-    match answer {
-        Answer::Listed => {
-            let list = r.list;
-            let listed = list.vars;
-            *vars = listed;
-            *count = list.count;
-            0
-        }
-        Answer::Refused(e) => e,
-    }
+    let Answer::Refused(e) = answer else {
+        let list = r.list;
+        let listed = list.vars;
+        *vars = listed;
+        *count = list.count;
+        return 0;
+    };
+    e
 }
 
 // Whether two types, each in an arena of its own, are structurally equal.

@@ -15,7 +15,8 @@ use Rattle.compact.specs.Compact.{answered}
 use Rattle.compact.specs.declared.Copied.{Copied}
 use Rattle.compact.specs.declared.Copied.the-variants as copied
 use Rattle.lang_ty.specs.Told.{told-arena, tell-arena}
-use Rattle.lang_ty_rewriting.specs.Changed.{TellsWorked, TellsSimplified}
+use Rattle.lang_ty_rewriting.specs.Inner.{TellsWorked}
+use Rattle.lang_ty_rewriting.specs.Changed.{TellsSimplified}
 use Rattle.lang_ty.specs.Numbered.{Numbered, answer-of}
 use Rattle.lang_ty.proofs.Telling.{told-case}
 use Rattle.lang_ty.proofs.Numbers.{refusal-high}

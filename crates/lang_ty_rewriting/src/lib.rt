@@ -15,9 +15,11 @@ ghost use mathlib.Core.Bool.{true, false};
 ghost use Rattle.recursion.specs.Hosted.{work-reply};
 ghost use Rattle.renumber.specs.Renumber.{normalize};
 ghost use Rattle.set_op_lists.specs.SetOps.{normalize-set-ops};
-ghost use Rattle.compact.specs.Compact.{compact-reply};
+ghost use Rattle.types.specs.Out.{number as refusal-number};
+ghost use Rattle.compact.specs.Compact.{compact-reply, answered};
 ghost use Rattle.lang_ty.specs.Told.{told-arena, tell-arena};
-ghost use Rattle.lang_ty_rewriting.specs.Changed.{TellsWorked, TellsSimplified};
+ghost use Rattle.lang_ty_rewriting.specs.Inner.{TellsWorked};
+ghost use Rattle.lang_ty_rewriting.specs.Changed.{TellsSimplified};
 
 // What the type of the root becomes, and in how many passes.
 #[no_mangle]
@@ -42,16 +44,14 @@ pub extern "C" fn lang_ty_simplify(
         words: *used,
     };
     let answer = simplify(table, words, starts, c, root);
-    match answer {
-        Simplified::Type(n, made, d) => {
-            *nodes = d.nodes;
-            *used = d.words;
-            *root_after = n;
-            *passes = made;
-            0
-        }
-        Simplified::Refused(e) => e,
-    }
+    let Simplified::Type(n, made, d) = answer else {
+        return answer.refusal();
+    };
+    *nodes = d.nodes;
+    *used = d.words;
+    *root_after = n;
+    *passes = made;
+    0
 }
 
 // What a call that works on a root answers, told to a host.
@@ -59,15 +59,13 @@ fn tell_worked(answer: Interned, nodes: &mut usize, used: &mut usize, root_after
     ensures { λ r. ⌜ TellsWorked (record { nodes = now (nodes .entry); words = now (used .entry) }) answer (now («root_after» .entry)) r
         (now («root_after» .exit)) (record { nodes = now (nodes .exit); words = now (used .exit) }) ⌝ }
 {
-    match answer {
-        Interned::Node(n, d) => {
-            *nodes = d.nodes;
-            *used = d.words;
-            *root_after = n;
-            0
-        }
-        Interned::Refused(e) => e,
-    }
+    let Interned::Node(n, d) = answer else {
+        return answer.refusal();
+    };
+    *nodes = d.nodes;
+    *used = d.words;
+    *root_after = n;
+    0
 }
 
 #[no_mangle]
@@ -139,6 +137,16 @@ pub extern "C" fn lang_ty_normalize_set_ops(
     tell_worked(answer, nodes, used, root_after)
 }
 
+// The number of a refused copy.
+fn copied_refusal(answer: Copied) -> u32
+    ensures { λ r. ⌜ r ≡ refusal-number (answered answer) ⌝ }
+{
+    match answer {
+        Copied::Root(_) => 0,
+        Copied::Refused(e) => e,
+    }
+}
+
 // The type of the root, copied into a target.
 #[no_mangle]
 pub extern "C" fn lang_ty_compact(
@@ -180,11 +188,9 @@ pub extern "C" fn lang_ty_compact(
     *target_nodes = d.nodes;
     *target_used = d.words;
     let answer = r.answer;
-    match answer {
-        Copied::Root(n) => {
-            *root_after = n;
-            0
-        }
-        Copied::Refused(e) => e,
-    }
+    let Copied::Root(n) = answer else {
+        return copied_refusal(answer);
+    };
+    *root_after = n;
+    0
 }

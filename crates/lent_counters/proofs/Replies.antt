@@ -6,11 +6,13 @@ use Rattle.types.specs.Out.{refuse}
 use Rattle.types.specs.Reply.{Reply, reply}
 use Rattle.types.specs.declared.Counters.{Counters}
 use Rattle.node_store.specs.Intern.{left}
-use Rattle.arena.specs.Intern.{intern-reply}
 use Rattle.node_store.specs.declared.added.Interned.{Interned}
 use Rattle.node_store.specs.declared.added.Interned.the-variants as interned
-use Rattle.arena.proofs.Answers.{answered, refused-unchanged}
-use Rattle.lent_counters.specs.Lent.{stored, stored-out, counters-left}
+use Rattle.arena.specs.Theorems.{answered}
+use Rattle.arena.proofs.Answers.{refused-unchanged}
+use Rattle.lent_counters.specs.Inner.{stored, counters-left}
+use Rattle.lent_counters.specs.Lent.{stored-out}
+use Rattle.lent_counters.specs.Theorems.{RefusedKept}
 use Rattle.lent_counters.specs.declared.Stored.{Stored}
 use Rattle.lent_counters.specs.declared.Stored.the-variants as store
 
@@ -30,5 +32,5 @@ pub lent-reply : (c : Counters) (a : Interned) {d : Counters} {r : Stored} {w s 
 lent-reply c a {w = w} {s = s} e ed er = ap₂ (λ (t : Stored) (b : Counters). reply (stored-out t) b w s) er ed ∙ at-answer c a w s ∙ e
 
 -- a refusal leaves the lent counters as they were
-pub refused-kept : (t w s : List ℕ) (c : Counters) (ws : List ℕ) (e : ℕ) {d : Counters} {w′ s′ : List ℕ} → reply (refuse e) d w′ s′ ≡ intern-reply t w s c ws → d ≡ c
-refused-kept t w s c ws e {d} {w′} {s′} p = let q : reply (refuse e) d w′ s′ ≡ reply (refuse e) c w s = p ∙ refused-unchanged t w s c ws e (sym (ap answered p)) in cc
+pub refused-kept : RefusedKept
+refused-kept t w s c ws e d w′ s′ p = let q : reply (refuse e) d w′ s′ ≡ reply (refuse e) c w s = p ∙ refused-unchanged t w s c ws e (sym (ap answered p)) in cc

@@ -4,9 +4,11 @@ use arena::intern;
 use node_store::added::Interned;
 use types::Counters;
 ghost use mathlib.Core.Path.{_≡_};
+ghost use Rattle.types.specs.Out.{number};
 ghost use Rattle.types.specs.Reply.{reply};
 ghost use Rattle.arena.specs.Intern.{intern-reply};
-ghost use Rattle.lent_counters.specs.Lent.{stored, stored-out, counters-left};
+ghost use Rattle.lent_counters.specs.Inner.{stored, counters-left};
+ghost use Rattle.lent_counters.specs.Lent.{stored-out};
 
 // A node's number, or the number of a refusal. The counters stand where they were lent.
 pub enum Stored {
@@ -14,24 +16,36 @@ pub enum Stored {
     Refused(u32),
 }
 
+impl Stored {
+    // The number of a refusal, for an answer of another type.
+    pub fn refusal(self) -> u32
+        ensures { λ r. ⌜ r ≡ number (stored-out self) ⌝ }
+    {
+        match self {
+            Stored::Node(_) => 0,
+            Stored::Refused(number) => number,
+        }
+    }
+}
+
 // The answer without its counters.
 fn stored_of(answer: Interned) -> Stored
     ensures { λ r. ⌜ r ≡ stored answer ⌝ }
 {
-    match answer {
-        Interned::Node(n, _) => Stored::Node(n),
-        Interned::Refused(number) => Stored::Refused(number),
-    }
+    let Interned::Node(n, _) = answer else {
+        return Stored::Refused(answer.refusal());
+    };
+    Stored::Node(n)
 }
 
 // The counters that an answer leaves where they were c: its own, or c after a refusal.
 fn counters_after(answer: Interned, c: Counters) -> Counters
     ensures { λ r. ⌜ r ≡ counters-left c answer ⌝ }
 {
-    match answer {
-        Interned::Node(_, d) => d,
-        Interned::Refused(_) => c,
-    }
+    let Interned::Node(_, d) = answer else {
+        return c;
+    };
+    d
 }
 
 // `intern` with the counters lent as a struct.

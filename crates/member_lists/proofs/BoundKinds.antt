@@ -15,11 +15,11 @@ use Rattle.types.specs.Places.{opposite}
 use Rattle.types.specs.declared.Counters.{Counters}
 use Rattle.types.proofs.KindNumbers.{kind-of-disc}
 use Rattle.types.proofs.Tests.{true-false}
-use Rattle.node_store.specs.Stored.{InRange}
-use Rattle.node_reading.specs.Nodes.{KindAt}
+use Rattle.node_store.specs.Inner.Stored.{InRange}
+use Rattle.node_reading.specs.Inner.{KindAt}
 use Rattle.simplification.specs.Pass.{list-kind}
 use Rattle.simplification.proofs.Answers.{or-true}
-use Rattle.member_lists.specs.Members.{NeutralOf, DecidingOf}
+use Rattle.member_lists.specs.Inner.Members.{NeutralOf, DecidingOf}
 
 -- the only tag of a kind, where the tag is a member list's or a bound's
 only-tag : Kind → Option Tag

@@ -29,8 +29,8 @@ use Rattle.simplification.specs.Pass.{member-list, close, gather}
 use Rattle.simplification.proofs.Members.{decided-if}
 use Rattle.simplification.proofs.Becoming.{Inside, brought-inside}
 use Rattle.simplification.proofs.Applying.{gather-decided, gather-open}
-use Rattle.member_lists.specs.Members.{grown-out, Gathering, Flattening, Flattens, Decides, Listing, Filled, InternsList, Finishes, ClosesOpen}
-use Rattle.member_lists.specs.Closed.{Closing, ClosesTo, done, emptied, Closes}
+use Rattle.member_lists.specs.Inner.Members.{grown-out, Gathering, Flattening, Flattens, Decides, Listing, Filled, InternsList, Finishes, ClosesOpen}
+use Rattle.member_lists.specs.Inner.Closed.{Closing, ClosesTo, done, emptied, Closes}
 use Rattle.member_lists.specs.declared.Closed.{Closed}
 use Rattle.member_lists.specs.declared.Closed.the-variants as closed
 use Rattle.member_lists.specs.declared.Decision.{Decision}

@@ -10,13 +10,17 @@ use lib.Seq.{length-take-le, take-all, take-suc, take-suc-set, split-at, getD-ta
 use lib.Dec.{eqb}
 use borrow.Author.Count.{below-more}
 use borrow.Author.Tests.{eqb-true, eq-eqb, lt-ltb, le-ltb}
+use Rattle.words.specs.Words.{child}
+use Rattle.types.specs.Fault.{children-in}
 use Rattle.types.specs.Out.{Out, ok, refuse, _>>=_}
 use Rattle.types.proofs.Tests.{not-true}
+use Rattle.node_reading.specs.Nodes.{ChildWords}
+use Rattle.node_reading.proofs.Offspring.{as-many, child-is}
 use Rattle.recursion.proofs.Answers.{bind-ok}
 use Rattle.recursion.proofs.Members.{index-of, member-at}
 use Rattle.simplification.specs.Pass.{one-of, append, first-copies}
 use Rattle.simplification.proofs.Answers.{one-true, one-if}
-use Rattle.member_lists.specs.Members.{Room, Grows}
+use Rattle.member_lists.specs.Inner.Members.{Room, Grows}
 use Rattle.member_lists.specs.declared.growing.Grown.{Grown}
 use Rattle.member_lists.specs.declared.growing.Grown.the-variants as grown
 
@@ -122,36 +126,36 @@ parted cs i l = split-at cs i 0 l ∙ sym (append-assoc (take i cs) (getD cs i 0
 pub next-part : (cs : List ℕ) (i : ℕ) → i < length cs → take (i + 1) cs ≡ take i cs ++ (getD cs i 0 ∷ [])
 next-part cs i l = ap (λ (j : ℕ). take j cs) (add-one i) ∙ take-suc cs i 0 l
 
--- ---- a list of members appended one by one: i of them so far
-pub record Appended (cs : List ℕ) (total : ℕ) (items₀ : List ℕ) (count : ℕ) (items : List ℕ) (held i : ℕ) : Type 0 where
-  pub all : total ≡ length cs
-  pub high : i ≤ total
-  pub grows : Grows items₀ count (take i cs) items (grown.Count held)
+-- ---- the members in a body appended one by one: i of them so far
+pub record Appended (ws b items₀ : List ℕ) (count : ℕ) (items : List ℕ) (held i : ℕ) : Type 0 where
+  pub body : ChildWords ws b
+  pub high : i ≤ length b
+  pub grows : Grows items₀ count (take i (children-in ws)) items (grown.Count held)
 
-module _ {cs items₀ : List ℕ} {total count : ℕ} where
-  pub appended-start : total ≡ length cs → Room items₀ count → Appended cs total items₀ count items₀ count 0
-  appended-start e R = record { all = e; high = omega arith; grows = grows-none R }
+module _ {ws b items₀ : List ℕ} {count : ℕ} where
+  pub appended-start : ChildWords ws b → Room items₀ count → Appended ws b items₀ count items₀ count 0
+  appended-start e R = record { body = e; high = omega arith; grows = grows-none R }
 
-  module _ {items : List ℕ} {held i : ℕ} (A : Appended cs total items₀ count items held i) where
+  module _ {items : List ℕ} {held i : ℕ} (A : Appended ws b items₀ count items held i) where
     pub appended-room : Room items held
     appended-room = A .grows .room held refl
 
-    pub appended-in : i < total → i < length cs
-    appended-in l = omega (arith, A .all)
+    inside : i < length b → i < length (children-in ws)
+    inside l = omega (arith, as-many (A .body))
 
-    pub appended-done : total ≤ i → Grows items₀ count cs items (grown.Count held)
-    appended-done h = rw (take-all i cs (omega (arith, A .all))) at (A .grows)
+    pub appended-done : length b ≤ i → Grows items₀ count (children-in ws) items (grown.Count held)
+    appended-done h = rw (take-all i (children-in ws) (omega (arith, as-many (A .body)))) at (A .grows)
 
-    module _ (l : i < total) {n : ℕ} (e : n ≡ getD cs i 0) {items′ : List ℕ} {r : Grown} (G : Grows items held (n ∷ []) items′ r) where
-      both : Grows items₀ count (take i cs ++ (getD cs i 0 ∷ [])) items′ r
-      both = grows-then (A .grows) (rw e at G)
+    module _ (l : i < length b) {n : ℕ} (e : n ≡ child (getD b i 0)) {items′ : List ℕ} {r : Grown} (G : Grows items held (n ∷ []) items′ r) where
+      both : Grows items₀ count (take i (children-in ws) ++ (getD (children-in ws) i 0 ∷ [])) items′ r
+      both = grows-then (A .grows) (rw (child-is (A .body) i e) at G)
 
-      pub appended-more : {next : ℕ} → r ≡ grown.Count next → Appended cs total items₀ count items′ next (i + 1)
+      pub appended-more : {next : ℕ} → r ≡ grown.Count next → Appended ws b items₀ count items′ next (i + 1)
       appended-more {next} q = record {
-        all = A .all;
+        body = A .body;
         high = omega arith;
-        grows = subst (λ (xs : List ℕ). Grows items₀ count xs items′ (grown.Count next)) (sym (next-part cs i (appended-in l))) (rw q at both);
+        grows = subst (λ (xs : List ℕ). Grows items₀ count xs items′ (grown.Count next)) (sym (next-part (children-in ws) i (inside l))) (rw q at both);
       }
 
-      pub appended-full : r ≡ grown.Full → Grows items₀ count cs items′ grown.Full
-      appended-full q = subst (λ (xs : List ℕ). Grows items₀ count xs items′ grown.Full) (sym (parted cs i (appended-in l))) (grows-full (drop (suc i) cs) (rw q at both))
+      pub appended-full : r ≡ grown.Full → Grows items₀ count (children-in ws) items′ grown.Full
+      appended-full q = subst (λ (xs : List ℕ). Grows items₀ count xs items′ grown.Full) (sym (parted (children-in ws) i (inside l))) (grows-full (drop (suc i) (children-in ws)) (rw q at both))

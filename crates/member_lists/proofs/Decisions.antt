@@ -13,12 +13,12 @@ use Rattle.types.specs.Memory.{Holds}
 use Rattle.types.specs.declared.Counters.{Counters}
 use Rattle.types.proofs.Tests.{not-true}
 use Rattle.types.proofs.Lists.{below-at}
-use Rattle.node_store.specs.Stored.{InRange}
-use Rattle.node_reading.specs.Nodes.{KindAt}
+use Rattle.node_store.specs.Inner.Stored.{InRange}
+use Rattle.node_reading.specs.Inner.{KindAt}
 use Rattle.recursion.proofs.Members.{index-of, member-at}
 use Rattle.simplification.specs.Pass.{is-decided}
 use Rattle.simplification.proofs.Members.{decided-by}
-use Rattle.member_lists.specs.Members.{DecidingOf, Gathering, Decides}
+use Rattle.member_lists.specs.Inner.Members.{DecidingOf, Gathering, Decides}
 use Rattle.member_lists.specs.declared.Decision.the-variants as decision
 use Rattle.member_lists.proofs.BoundKinds.{bound-told}
 

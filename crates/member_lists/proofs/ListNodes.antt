@@ -15,10 +15,10 @@ use Rattle.types.specs.Memory.{Holds}
 use Rattle.types.specs.declared.Counters.{Counters}
 use Rattle.types.proofs.KindNumbers.{disc-small}
 use Rattle.types.proofs.Addresses.{start-room}
-use Rattle.node_store.specs.Added.{Fresh, Interns}
+use Rattle.node_store.specs.Inner.Added.{Fresh, Interns}
 use Rattle.node_store.specs.declared.added.Interned.{Interned}
 use Rattle.simplification.proofs.Rebuilding.{list-well}
-use Rattle.member_lists.specs.Members.{Room, NodeWords, Filled, InternsList}
+use Rattle.member_lists.specs.Inner.Members.{Room, NodeWords, Filled, InternsList}
 use Rattle.member_lists.proofs.Copying.{room-length}
 
 -- ---- the words of a node: its head and i members are written

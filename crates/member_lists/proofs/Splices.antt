@@ -14,11 +14,11 @@ use Rattle.types.specs.declared.Counters.{Counters}
 use Rattle.types.proofs.Lists.{below-at}
 use Rattle.types.proofs.Faults.{children-encode}
 use Rattle.types.proofs.Sound.{at-formed}
-use Rattle.node_store.specs.Stored.{NodeAt}
-use Rattle.node_reading.specs.Nodes.{KindAt}
+use Rattle.node_store.specs.Inner.Stored.{NodeAt}
+use Rattle.node_reading.specs.Inner.{KindAt}
 use Rattle.simplification.specs.Pass.{splice}
 use Rattle.simplification.proofs.Answers.{same-tag-if, same-tag-not}
-use Rattle.member_lists.specs.Members.{NeutralOf, Grows, Gathering, Splicing, Flattening, Flattens}
+use Rattle.member_lists.specs.Inner.Members.{NeutralOf, Grows, Gathering, Splicing, Flattening, Flattens}
 use Rattle.member_lists.specs.declared.growing.Grown.{Grown}
 use Rattle.member_lists.specs.declared.growing.Grown.the-variants as grown
 use Rattle.member_lists.proofs.BoundKinds.{list-told, bound-told}

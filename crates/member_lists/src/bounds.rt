@@ -3,9 +3,9 @@ use node_reading::nodes::kind_at;
 use types::Counters;
 use types::arc_ty::Head;
 use types::arc_ty::wide;
-ghost use Rattle.node_store.specs.Stored.{InRange};
-ghost use Rattle.node_reading.specs.Nodes.{KindAt};
-ghost use Rattle.member_lists.specs.Members.{NeutralOf, DecidingOf};
+ghost use Rattle.node_store.specs.Inner.Stored.{InRange};
+ghost use Rattle.node_reading.specs.Inner.{KindAt};
+ghost use Rattle.member_lists.specs.Inner.Members.{NeutralOf, DecidingOf};
 
 // The kind of the member n.
 pub(crate) fn kind_of(words: &[u32], starts: &[u32], c: Counters, n: u32) -> u32

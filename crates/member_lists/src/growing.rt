@@ -1,10 +1,10 @@
 // A member list as it grows: its items are lent, its length goes in and comes back.
 use crate::bounds::kind_of;
 use crate::bounds::neutral;
-use node_reading::children::child_at;
-use node_reading::children::child_count;
+use node_reading::children::child_words;
 use node_store::stored::node_at;
 use types::Counters;
+use types::arc_ty::child;
 use types::arc_ty::wide;
 ghost use mathlib.Core.Path.{_≡_};
 ghost use mathlib.Core.List.{[], _∷_};
@@ -12,7 +12,7 @@ ghost use lib.ListN.{take};
 ghost use lib.Dec.{eqb};
 ghost use Rattle.types.specs.Fault.{children-in};
 ghost use Rattle.simplification.specs.Pass.{one-of};
-ghost use Rattle.member_lists.specs.Members.{Room, Grows, Splicing, Flattening, Flattens};
+ghost use Rattle.member_lists.specs.Inner.Members.{Room, Grows, Splicing, Flattening, Flattens};
 
 // How many members the list has, or that a 65th has no room.
 pub enum Grown {
@@ -55,11 +55,11 @@ pub fn append_children(node: &[u32], items: &mut [u32; 64], count: usize) -> Gro
     requires { ⌜ Room (now items) count ⌝ }
     ensures { λ r. ⌜ Grows (now (items .entry)) count (children-in (now (node .entry))) (now (items .exit)) r ⌝ }
 {
-    let total = child_count(node);
+    let body = child_words(node);
     let mut held = count;
     let mut i = 0;
-    while i < total {
-        let grown = append(items, held, child_at(node, i));
+    while i < body.len() {
+        let grown = append(items, held, child(body[i]));
         let Grown::Count(next) = grown else {
             return Grown::Full;
         };

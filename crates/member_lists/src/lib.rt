@@ -12,8 +12,9 @@ use types::Counters;
 use types::arc_ty::Head;
 ghost use mathlib.Core.Path.{_≡_};
 ghost use lib.ListN.{take};
-ghost use Rattle.member_lists.specs.Members.{Room, Gathering, Decides, NodeWords, Listing, Filled, InternsList, Finishes, ClosesOpen};
-ghost use Rattle.member_lists.specs.Closed.{Closing, Closes};
+ghost use Rattle.member_lists.specs.Inner.Members.{Room, Gathering, Decides, NodeWords, Listing, Filled, InternsList, Finishes};
+ghost use Rattle.member_lists.specs.Inner.Members.{ClosesOpen};
+ghost use Rattle.member_lists.specs.Inner.Closed.{Closing, Closes};
 
 // A list of at most 64 node numbers with its length.
 pub struct Members {
@@ -121,12 +122,16 @@ fn close_open(
     ensures { λ r. ⌜ ClosesOpen (now (words .entry)) (now (starts .entry)) c kind (now (members .entry)) (now (words .exit))
         (now (starts .exit)) r ⌝ }
 {
-    let mut items = [0u32; 64];
-    let grown = flatten(words, starts, c, kind, members, &mut items);
+    let mut list = Members {
+        items: [0u32; 64],
+        count: 0,
+    };
+    let grown = flatten(words, starts, c, kind, members, &mut list.items);
     let Grown::Count(count) = grown else {
         return Closed::Done(Interned::Refused(8));
     };
-    finish(words, starts, c, kind, Members { items, count })
+    list.count = count;
+    finish(words, starts, c, kind, list)
 }
 
 // What becomes of a member list of a kind: a member that decides it; else its members, spliced one level, without the neutral

@@ -6,7 +6,7 @@ use native.Mathlib.Omega.{arith}
 use lib.ListN.{length, getD, take, drop, set, length-set, drop-of-length-le}
 use lib.Seq.{length-take-le, take-all, take-suc, drop-cons, take-set-lt, set-at, getD-take}
 use lib.ListN.{List·getD-append}
-use Rattle.member_sorting.specs.Sorting.{Gap, OpensGap}
+use Rattle.member_sorting.specs.Inner.{Gap, OpensGap}
 
 -- the items from i on went up by one
 pub record Opening (items₀ : List ℕ) (place count : ℕ) (items : List ℕ) (i : ℕ) : Type 0 where

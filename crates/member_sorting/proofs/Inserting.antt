@@ -12,8 +12,8 @@ use Rattle.types.specs.Arena.{Arena}
 use Rattle.types.specs.Memory.{Holds}
 use Rattle.types.specs.declared.Counters.{Counters}
 use Rattle.types.proofs.Lists.{below-at}
-use Rattle.member_sorting.specs.Sort.{insert, sort-onto, sort}
-use Rattle.member_sorting.specs.Sorting.{Placing, PlaceOf, Gap, OpensGap, Inserting, Inserts, Sorting, Sorts}
+use Rattle.member_sorting.specs.Sort.{insert-member, sort-onto, sort}
+use Rattle.member_sorting.specs.Inner.{Placing, PlaceOf, Gap, OpensGap, Inserting, Inserts, Sorting, Sorts}
 use Rattle.member_sorting.proofs.Sorted.{insert-below}
 
 -- ---- one member
@@ -41,7 +41,7 @@ module _ {w s : List ℕ} {c : Counters} {m : ℕ} {items : List ℕ} {count : �
           let cs = take count items in
           take-set-lt (suc count) items′ place m (omega (arith, inserting-gap .few)) ∙ ap (λ (y : List ℕ). set y place m) (O .is)
           ∙ set-at (take place cs) (O .hole) (drop place cs) m place (length-take-le place cs (omega (arith, P .few, ap length e)))
-          ∙ sym (ap (insert a m) (sym e) ∙ P .is table a H ∙ ap (λ (y : List ℕ). take place y ++ m ∷ drop place y) e);
+          ∙ sym (ap (insert-member a m) (sym e) ∙ P .is table a H ∙ ap (λ (y : List ℕ). take place y ++ m ∷ drop place y) e);
     }
 
 -- ---- one after another: the first i members are sorted

@@ -14,9 +14,9 @@ use Rattle.types.specs.Order.{is-less}
 use Rattle.types.specs.declared.Ordering.{Ordering}
 use Rattle.types.specs.declared.Ordering.the-variants.{Less, Equal, Greater}
 use Rattle.types.proofs.Lists.{below-at}
-use Rattle.node_store.specs.Stored.{InRange, Ordered}
-use Rattle.member_sorting.specs.Sort.{before, insert}
-use Rattle.member_sorting.specs.Sorting.{ComesBefore, Placing, PlaceOf}
+use Rattle.node_store.specs.Inner.Stored.{InRange, Ordered}
+use Rattle.member_sorting.specs.Sort.{before, insert-member}
+use Rattle.member_sorting.specs.Inner.{ComesBefore, Placing, PlaceOf}
 
 -- ---- which of two comes first
 pub range-of : {w s : List ℕ} {c : Counters} {m n : ℕ} → n ≡ m → InRange w s c m → InRange w s c n
@@ -37,19 +37,19 @@ module _ {w s : List ℕ} {c : Counters} {m n x y : ℕ} (p : x ≡ m) (q : y �
   told-greater e = told (ap is-less (sym e))
 
 -- ---- one member
-insert-here : (a : Arena) (m x : ℕ) (xs : List ℕ) → before a m x ≡ true → insert a m (x ∷ xs) ≡ m ∷ x ∷ xs
-unfolding insert
-insert-here a m x xs e = rw (insert, e)
+insert-here : (a : Arena) (m x : ℕ) (xs : List ℕ) → before a m x ≡ true → insert-member a m (x ∷ xs) ≡ m ∷ x ∷ xs
+unfolding insert-member
+insert-here a m x xs e = rw (insert-member, e)
 
-insert-later : (a : Arena) (m x : ℕ) (xs : List ℕ) → before a m x ≡ false → insert a m (x ∷ xs) ≡ x ∷ insert a m xs
-unfolding insert
-insert-later a m x xs e = rw (insert, e)
+insert-later : (a : Arena) (m x : ℕ) (xs : List ℕ) → before a m x ≡ false → insert-member a m (x ∷ xs) ≡ x ∷ insert-member a m xs
+unfolding insert-member
+insert-later a m x xs e = rw (insert-member, e)
 
 -- m comes before none of the first i members
 pub record Passed (w s : List ℕ) (c : Counters) (m : ℕ) (ms : List ℕ) (i : ℕ) : Type 0 where
   pub placing : Placing w s c m ms
   pub high : i ≤ length ms
-  pub is : (table : ℕ) (a : Arena) → Holds table w s c a → insert a m ms ≡ take i ms ++ insert a m (drop i ms)
+  pub is : (table : ℕ) (a : Arena) → Holds table w s c a → insert-member a m ms ≡ take i ms ++ insert-member a m (drop i ms)
 
 module _ {w s : List ℕ} {c : Counters} {m : ℕ} {ms : List ℕ} where
   pub passed-start : Placing w s c m ms → Passed w s c m ms 0
@@ -63,10 +63,10 @@ module _ {w s : List ℕ} {c : Counters} {m : ℕ} {ms : List ℕ} where
     passed-next l = record { lent = P .placing .range .lent; inside = below-at (c .nodes) ms (P .placing .low) i l }
 
     pub passed-done : length ms ≤ i → PlaceOf w s c m ms i
-    unfolding insert
+    unfolding insert-member
     passed-done h = record {
       few = P .high;
-      is = λ table a H. let none = drop-of-length-le ms {i = i} h in P .is table a H ∙ ap (λ (l : List ℕ). take i ms ++ insert a m l) none ∙ ap (λ (l : List ℕ). take i ms ++ m ∷ l) (sym none);
+      is = λ table a H. let none = drop-of-length-le ms {i = i} h in P .is table a H ∙ ap (λ (l : List ℕ). take i ms ++ insert-member a m l) none ∙ ap (λ (l : List ℕ). take i ms ++ m ∷ l) (sym none);
     }
 
     module _ (l : i < length ms) {b : Bool} (B : ComesBefore w s c m (getD ms i 0) b) where
@@ -75,7 +75,7 @@ module _ {w s : List ℕ} {c : Counters} {m : ℕ} {ms : List ℕ} where
         few = P .high;
         is = λ table a H.
             let d = drop-cons ms i 0 l in
-            P .is table a H ∙ ap (λ (l : List ℕ). take i ms ++ insert a m l) d ∙ ap (λ (l : List ℕ). take i ms ++ l) (insert-here a m (getD ms i 0) (drop (suc i) ms) (sym (B .is table a H) ∙ e))
+            P .is table a H ∙ ap (λ (l : List ℕ). take i ms ++ insert-member a m l) d ∙ ap (λ (l : List ℕ). take i ms ++ l) (insert-here a m (getD ms i 0) (drop (suc i) ms) (sym (B .is table a H) ∙ e))
             ∙ ap (λ (l : List ℕ). take i ms ++ m ∷ l) (sym d);
       }
 
@@ -84,8 +84,8 @@ module _ {w s : List ℕ} {c : Counters} {m : ℕ} {ms : List ℕ} where
         placing = P .placing;
         high = omega arith;
         is = λ table a H.
-            P .is table a H ∙ ap (λ (l : List ℕ). take i ms ++ insert a m l) (drop-cons ms i 0 l)
+            P .is table a H ∙ ap (λ (l : List ℕ). take i ms ++ insert-member a m l) (drop-cons ms i 0 l)
             ∙ ap (λ (l : List ℕ). take i ms ++ l) (insert-later a m (getD ms i 0) (drop (suc i) ms) (sym (B .is table a H) ∙ e))
-            ∙ sym (append-assoc (take i ms) (getD ms i 0 ∷ []) (insert a m (drop (suc i) ms))) ∙ ap (λ (l : List ℕ). l ++ insert a m (drop (suc i) ms)) (sym (take-suc ms i 0 l))
-            ∙ ap (λ (j : ℕ). take j ms ++ insert a m (drop j ms)) (sym (add-one i));
+            ∙ sym (append-assoc (take i ms) (getD ms i 0 ∷ []) (insert-member a m (drop (suc i) ms))) ∙ ap (λ (l : List ℕ). l ++ insert-member a m (drop (suc i) ms)) (sym (take-suc ms i 0 l))
+            ∙ ap (λ (j : ℕ). take j ms ++ insert-member a m (drop j ms)) (sym (add-one i));
       }

@@ -12,38 +12,28 @@ use Rattle.types.specs.Node.{below}
 use Rattle.types.specs.Arena.{Arena, at, Ext}
 use Rattle.types.specs.Order.{is-less, reversed}
 use Rattle.types.specs.declared.Ordering.{Ordering}
-use Rattle.types.specs.declared.Ordering.the-variants.{Greater}
 use Rattle.types.proofs.Lists.{below-cons}
 use Rattle.types.proofs.Growth.{ext-at}
 use Rattle.types.proofs.Tests.{true-false}
 use Rattle.node_order.specs.NodeOrder.{node-order}
 use Rattle.node_order.proofs.NodeOrders.{node-order-orders}
-use Rattle.member_sorting.specs.Sort.{before, insert, sort-onto, sort}
+use Rattle.member_sorting.specs.Sort.{before, insert-member, sort-onto, sort}
+use Rattle.member_sorting.specs.Theorems.{Inserted, here, later, Arranged, none, one, NotAfter, Ascending, empty, single, several, SortedMembers}
 
 -- ---- an arrangement
--- ys is xs with m somewhere
-pub data Inserted (m : ℕ) : List ℕ → List ℕ → Type 0 where
-  here : {xs : List ℕ} → Inserted m xs (m ∷ xs)
-  later : {x : ℕ} {xs ys : List ℕ} → Inserted m xs ys → Inserted m (x ∷ xs) (x ∷ ys)
-
--- l is xs with each of the members somewhere
-pub data Arranged : List ℕ → List ℕ → List ℕ → Type 0 where
-  none : {l : List ℕ} → Arranged l [] l
-  one : {m : ℕ} {xs ys ms l : List ℕ} → Inserted m xs ys → Arranged ys ms l → Arranged xs (m ∷ ms) l
-
-inserted : (a : Arena) (m : ℕ) (xs : List ℕ) → Inserted m xs (insert a m xs)
-unfolding insert
+inserted : (a : Arena) (m : ℕ) (xs : List ℕ) → Inserted m xs (insert-member a m xs)
+unfolding insert-member
 inserted a m [] = here
 inserted a m (x ∷ xs) = go (before a m x) (inserted a m xs)
   where
-    go : (b : Bool) → Inserted m xs (insert a m xs) → Inserted m (x ∷ xs) (elim b as (λ _. List ℕ) [ true ↦ m ∷ x ∷ xs | false ↦ x ∷ insert a m xs ])
+    go : (b : Bool) → Inserted m xs (insert-member a m xs) → Inserted m (x ∷ xs) (elim b as (λ _. List ℕ) [ true ↦ m ∷ x ∷ xs | false ↦ x ∷ insert-member a m xs ])
     go true h = here
     go false h = later h
 
 arranged : (a : Arena) (xs ms : List ℕ) → Arranged xs ms (sort-onto a xs ms)
 unfolding sort-onto
 arranged a xs [] = none
-arranged a xs (m ∷ ms) = one (inserted a m xs) (arranged a (insert a m xs) ms)
+arranged a xs (m ∷ ms) = one (inserted a m xs) (arranged a (insert-member a m xs) ms)
 
 inserted-count : {m : ℕ} {xs ys : List ℕ} → Inserted m xs ys → length ys ≡ suc (length xs)
 inserted-count here = refl
@@ -62,7 +52,7 @@ unfolding below
 inserted-below {m} {n} here l e = rw (lt-ltb m n l) e
 inserted-below {n = n} (later {x} {xs} h) l e = let p = below-cons n x xs e in rw (lt-ltb x n (p .0)) (inserted-below h l (p .1))
 
-pub insert-below : (a : Arena) (m n : ℕ) (xs : List ℕ) → m < n → below n xs ≡ true → below n (insert a m xs) ≡ true
+pub insert-below : (a : Arena) (m n : ℕ) (xs : List ℕ) → m < n → below n xs ≡ true → below n (insert-member a m xs) ≡ true
 insert-below a m n xs = inserted-below (inserted a m xs)
 
 arranged-count : {xs ms l : List ℕ} → Arranged xs ms l → length l ≡ length xs + length ms
@@ -86,16 +76,6 @@ arranged-new z (one {m} h k) i = ⊎-elim (λ e. arranged-old z k (new-there e h
     new-there e (later h) = tail (new-there e h)
 
 -- ---- in order
--- node m doesn't come after node n
-abbrev pub NotAfter : Arena → ℕ → ℕ → Type 0
-NotAfter a m n = node-order (at a m) (at a n) ≡ Greater → ⊥
-
--- no member comes after the next
-pub data Ascending (a : Arena) : List ℕ → Type 0 where
-  empty : Ascending a []
-  single : {m : ℕ} → Ascending a (m ∷ [])
-  several : {m n : ℕ} {ms : List ℕ} → NotAfter a m n → Ascending a (n ∷ ms) → Ascending a (m ∷ n ∷ ms)
-
 before-not-after : (a : Arena) (m n : ℕ) → before a m n ≡ true → NotAfter a m n
 unfolding before
 before-not-after a m n e g = true-false (sym e ∙ ap is-less g)
@@ -104,8 +84,8 @@ not-before : (a : Arena) (m n : ℕ) → before a m n ≡ false → NotAfter a n
 unfolding before reversed
 not-before a m n e g = true-false (sym (ap (λ (o : Ordering). is-less (reversed o)) g) ∙ ap is-less (sym (node-order-orders .turned (at a n) (at a m))) ∙ e)
 
-insert-ascending : (a : Arena) (m : ℕ) (xs : List ℕ) → Ascending a xs → Ascending a (insert a m xs)
-unfolding insert
+insert-ascending : (a : Arena) (m : ℕ) (xs : List ℕ) → Ascending a xs → Ascending a (insert-member a m xs)
+unfolding insert-member
 insert-ascending a m [] empty = single
 insert-ascending a m (x ∷ []) single = go (before a m x) refl
   where
@@ -114,8 +94,8 @@ insert-ascending a m (x ∷ []) single = go (before a m x) refl
     go false e = several (not-before a m x e) single
 insert-ascending a m (x ∷ y ∷ ys) (several h k) = go (before a m x) refl (before a m y) refl (insert-ascending a m (y ∷ ys) k)
   where
-    go : (b : Bool) → before a m x ≡ b → (d : Bool) → before a m y ≡ d → Ascending a (elim d as (λ _. List ℕ) [ true ↦ m ∷ y ∷ ys | false ↦ y ∷ insert a m ys ])
-        → Ascending a (elim b as (λ _. List ℕ) [ true ↦ m ∷ x ∷ y ∷ ys | false ↦ x ∷ elim d as (λ _. List ℕ) [ true ↦ m ∷ y ∷ ys | false ↦ y ∷ insert a m ys ] ])
+    go : (b : Bool) → before a m x ≡ b → (d : Bool) → before a m y ≡ d → Ascending a (elim d as (λ _. List ℕ) [ true ↦ m ∷ y ∷ ys | false ↦ y ∷ insert-member a m ys ])
+        → Ascending a (elim b as (λ _. List ℕ) [ true ↦ m ∷ x ∷ y ∷ ys | false ↦ x ∷ elim d as (λ _. List ℕ) [ true ↦ m ∷ y ∷ ys | false ↦ y ∷ insert-member a m ys ] ])
     go true e d q r = several (before-not-after a m x e) (several h k)
     go false e true q r = several (not-before a m x e) r
     go false e false q r = several h r
@@ -123,17 +103,9 @@ insert-ascending a m (x ∷ y ∷ ys) (several h k) = go (before a m x) refl (be
 onto-ascending : (a : Arena) (xs ms : List ℕ) → Ascending a xs → Ascending a (sort-onto a xs ms)
 unfolding sort-onto
 onto-ascending a xs [] h = h
-onto-ascending a xs (m ∷ ms) h = onto-ascending a (insert a m xs) ms (insert-ascending a m xs h)
+onto-ascending a xs (m ∷ ms) h = onto-ascending a (insert-member a m xs) ms (insert-ascending a m xs h)
 
--- l is a sorted arrangement of the members
-pub record SortOf (a : Arena) (ms l : List ℕ) : Type 0 where
-  pub ascending : Ascending a l
-  pub arranged : Arranged [] ms l
-  pub count : length l ≡ length ms
-  pub from : (x : ℕ) → Mem x l → Mem x ms
-  pub onto : (x : ℕ) → Mem x ms → Mem x l
-
-pub sorted : (a : Arena) (ms : List ℕ) → SortOf a ms (sort a ms)
+pub sorted : SortedMembers
 unfolding sort
 sorted a ms =
     let A = arranged a [] ms in
@@ -147,8 +119,8 @@ sorted a ms =
 
 -- ---- in a grown arena
 module _ (a b : Arena) (x : Ext a b) where
-  insert-kept : (m : ℕ) (xs : List ℕ) → m < length a → below (length a) xs ≡ true → insert b m xs ≡ insert a m xs
-  unfolding insert before
+  insert-kept : (m : ℕ) (xs : List ℕ) → m < length a → below (length a) xs ≡ true → insert-member b m xs ≡ insert-member a m xs
+  unfolding insert-member before
   insert-kept m [] l e = refl
   insert-kept m (y ∷ ys) l e =
       let p = below-cons (length a) y ys e in
@@ -160,7 +132,7 @@ module _ (a b : Arena) (x : Ext a b) where
   onto-kept xs [] e f = refl
   onto-kept xs (m ∷ ms) e f =
       let p = below-cons (length a) m ms f in
-      ap (λ (l : List ℕ). sort-onto b l ms) (insert-kept m xs (p .0) e) ∙ onto-kept (insert a m xs) ms (insert-below a m (length a) xs (p .0) e) (p .1)
+      ap (λ (l : List ℕ). sort-onto b l ms) (insert-kept m xs (p .0) e) ∙ onto-kept (insert-member a m xs) ms (insert-below a m (length a) xs (p .0) e) (p .1)
 
   pub sort-kept : (ms : List ℕ) → below (length a) ms ≡ true → sort b ms ≡ sort a ms
   unfolding sort below
@@ -169,7 +141,7 @@ module _ (a b : Arena) (x : Ext a b) where
 onto-below : (a : Arena) (n : ℕ) (xs ms : List ℕ) → below n xs ≡ true → below n ms ≡ true → below n (sort-onto a xs ms) ≡ true
 unfolding sort-onto
 onto-below a n xs [] e f = e
-onto-below a n xs (m ∷ ms) e f = let p = below-cons n m ms f in onto-below a n (insert a m xs) ms (insert-below a m n xs (p .0) e) (p .1)
+onto-below a n xs (m ∷ ms) e f = let p = below-cons n m ms f in onto-below a n (insert-member a m xs) ms (insert-below a m n xs (p .0) e) (p .1)
 
 pub sort-below : (a : Arena) (n : ℕ) (ms : List ℕ) → below n ms ≡ true → below n (sort a ms) ≡ true
 unfolding sort below

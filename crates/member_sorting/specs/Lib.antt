@@ -1,2 +1,3 @@
 pub mod Sort
-pub mod Sorting
+pub mod Theorems
+pub mod Inner

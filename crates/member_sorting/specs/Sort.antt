@@ -12,16 +12,16 @@ unfolding node-order at
 before a m n = is-less (node-order (at a m) (at a n))
 
 -- a member, before the first that it comes before
-unfoldable pub insert : Arena → ℕ → List ℕ → List ℕ
+unfoldable pub insert-member : Arena → ℕ → List ℕ → List ℕ
 unfolding before
-insert a m [] = m ∷ []
-insert a m (x ∷ xs) = elim (before a m x) [ true ↦ m ∷ x ∷ xs | false ↦ x ∷ insert a m xs ]
+insert-member a m [] = m ∷ []
+insert-member a m (x ∷ xs) = elim (before a m x) [ true ↦ m ∷ x ∷ xs | false ↦ x ∷ insert-member a m xs ]
 
 -- a sorted list, and what follows inserted from left to right
 unfoldable pub sort-onto : Arena → List ℕ → List ℕ → List ℕ
-unfolding insert
+unfolding insert-member
 sort-onto a sorted [] = sorted
-sort-onto a sorted (m ∷ ms) = sort-onto a (insert a m sorted) ms
+sort-onto a sorted (m ∷ ms) = sort-onto a (insert-member a m sorted) ms
 
 unfoldable pub sort : Arena → List ℕ → List ℕ
 unfolding sort-onto

@@ -3,8 +3,8 @@ use node_store::stored::order_of;
 use types::Counters;
 use types::Ordering;
 use types::arc_ty::wide;
-ghost use Rattle.node_store.specs.Stored.{InRange};
-ghost use Rattle.member_sorting.specs.Sorting.{ComesBefore, Placing, PlaceOf, Gap, OpensGap, Inserting, Inserts, Sorting, Sorts};
+ghost use Rattle.node_store.specs.Inner.Stored.{InRange};
+ghost use Rattle.member_sorting.specs.Inner.{ComesBefore, Placing, PlaceOf, Gap, OpensGap, Inserting, Inserts, Sorting, Sorts};
 
 // Whether node m comes before node n.
 fn comes_before(words: &[u32], starts: &[u32], c: Counters, m: u32, n: u32) -> bool

@@ -11,7 +11,8 @@ use Rattle.types.specs.Out.{Out, ok, refuse, required}
 use Rattle.types.proofs.Tests.{true-false, and-true, both}
 use Rattle.types.specs.Order.{is-less}
 use Rattle.names.specs.Table.{Name, table, name-order, rising, good-name, all-good, IsTable}
-use Rattle.names.specs.Steps.{name-end, may-follow}
+use Rattle.names.specs.Inner.{name-end}
+use Rattle.names.specs.Table.{may-follow}
 use Rattle.names.specs.Reply.{table-reply}
 use Rattle.names.proofs.Tables.{is-names-of, no-names-of}
 use Rattle.names.proofs.Replies.{reply-of}

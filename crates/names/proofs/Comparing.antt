@@ -5,7 +5,7 @@ use native.Mathlib.Omega.{arith}
 use native.Mathlib.Numerals.{add-one}
 use lib.ListN.{length, getD, drop, drop-of-length-le}
 use lib.Seq.{drop-cons}
-use Rattle.types.specs.Order.{order, then}
+use Rattle.types.specs.Order.{order, ordering-then}
 use Rattle.types.specs.declared.Ordering.{Ordering}
 use Rattle.types.specs.declared.Ordering.the-variants.{Less, Equal, Greater}
 use Rattle.types.proofs.Orders.{order-less, order-equal, order-greater}
@@ -22,23 +22,23 @@ module _ {a b : Name} where
 
   module _ {i : ℕ} (L : Level a b i) where
     -- the bytes at i, then what follows
-    next : i < length a → i < length b → name-order a b ≡ then (order (getD a i 0) (getD b i 0)) (name-order (drop (suc i) a) (drop (suc i) b))
+    next : i < length a → i < length b → name-order a b ≡ ordering-then (order (getD a i 0) (getD b i 0)) (name-order (drop (suc i) a) (drop (suc i) b))
     unfolding name-order
     next h k = L .rest ∙ ap₂ name-order (drop-cons a i 0 h) (drop-cons b i 0 k)
 
-    told : {o : Ordering} → i < length a → i < length b → order (getD a i 0) (getD b i 0) ≡ o → name-order a b ≡ then o (name-order (drop (suc i) a) (drop (suc i) b))
-    told h k e = next h k ∙ ap (λ (w : Ordering). then w (name-order (drop (suc i) a) (drop (suc i) b))) e
+    told : {o : Ordering} → i < length a → i < length b → order (getD a i 0) (getD b i 0) ≡ o → name-order a b ≡ ordering-then o (name-order (drop (suc i) a) (drop (suc i) b))
+    told h k e = next h k ∙ ap (λ (w : Ordering). ordering-then w (name-order (drop (suc i) a) (drop (suc i) b))) e
 
     pub level-less : i < length a → i < length b → getD a i 0 < getD b i 0 → Less ≡ name-order a b
-    unfolding then
+    unfolding ordering-then
     level-less h k l = sym (told h k (order-less _ _ l))
 
     pub level-greater : i < length a → i < length b → getD b i 0 < getD a i 0 → Greater ≡ name-order a b
-    unfolding then
+    unfolding ordering-then
     level-greater h k l = sym (told h k (order-greater _ _ l))
 
     pub level-more : i < length a → i < length b → getD b i 0 ≤ getD a i 0 → getD a i 0 ≤ getD b i 0 → Level a b (i + 1)
-    unfolding then
+    unfolding ordering-then
     level-more h k l m = record {
       high = omega arith;
       other = omega arith;

@@ -9,8 +9,7 @@ use Rattle.types.specs.Order.{is-less}
 use Rattle.types.specs.declared.Ordering.{Ordering}
 use Rattle.types.specs.declared.Ordering.the-variants.{Less, Equal, Greater}
 use Rattle.types.proofs.Tests.{and-true, both}
-use Rattle.names.specs.Table.{Name, name-order, good-name}
-use Rattle.names.specs.Steps.{may-follow}
+use Rattle.names.specs.Table.{Name, name-order, good-name, may-follow}
 
 module _ (last n : Name) (b : ℕ) {x : ℕ} (e : x ≡ b) where
   pub follows-short : (x ≡ length n → ⊥) → false ≡ may-follow last b n

@@ -7,3 +7,4 @@ pub mod Spelling
 pub mod Following
 pub mod Walking
 pub mod Checking
+pub mod Stretches

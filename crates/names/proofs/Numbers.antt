@@ -7,12 +7,13 @@ use mathlib.Core.Option.{some}
 use native.Mathlib.Omega.{arith}
 use native.Mathlib.Nat.{le-of-suc-le-suc}
 use lib.ListN.{length, getD, List·getD-eq-default}
-use Rattle.types.specs.Order.{TotalOrder, order, is-less, reversed}
+use Rattle.types.specs.Order.{TotalOrder, is-less, reversed}
 use Rattle.types.specs.declared.Ordering.{Ordering}
 use Rattle.types.specs.declared.Ordering.the-variants.{Less, Equal, Greater}
 use Rattle.types.proofs.Tests.{true-false, and-true}
 use Rattle.types.proofs.Orders.{order-total, order-less, order-equal, order-greater, compared, lexicographic-total}
 use Rattle.names.specs.Table.{Name, name-order, rising, good-name, all-good, names-of, name-text}
+use Rattle.names.specs.Theorems.{NumberOrder}
 use Rattle.names.proofs.Tables.{names-of-is, name-text-is}
 use Rattle.names.proofs.Rules.{Rules, good-rules, GoodName, good-name-is, rising-rest}
 
@@ -65,10 +66,11 @@ module _ (t : List ℕ) (ns : List Name) (e : names-of t ≡ some ns) where
   pub text-not : (k : ℕ) → length ns ≤ k → name-text t k ≡ []
   text-not k h = name-text-is t ns k e ∙ List·getD-eq-default ns [] h
 
-  pub number-order : (i j : ℕ) → i < length ns → j < length ns → name-order (getD ns i []) (getD ns j []) ≡ order i j
-  unfolding reversed
-  number-order i j h k =
-      compared i j
-      (λ l. rising-at ns (rules .rises) i j l k ∙ sym (order-less i j l))
-      (λ l. ap (λ (w : ℕ). name-order (getD ns i []) (getD ns w [])) (sym l) ∙ name-order-total .refl-equal _ ∙ sym (order-equal i j l))
-      (λ l. name-order-total .turned _ _ ∙ ap reversed (rising-at ns (rules .rises) j i l h) ∙ sym (order-greater i j l))
+pub number-order : NumberOrder
+unfolding reversed
+number-order t ns e i j h k =
+    let rises = rules t ns e .rises in
+    compared i j
+    (λ l. rising-at ns rises i j l k ∙ sym (order-less i j l))
+    (λ l. ap (λ (w : ℕ). name-order (getD ns i []) (getD ns w [])) (sym l) ∙ name-order-total .refl-equal _ ∙ sym (order-equal i j l))
+    (λ l. name-order-total .turned _ _ ∙ ap reversed (rising-at ns rises j i l h) ∙ sym (order-greater i j l))

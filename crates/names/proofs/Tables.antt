@@ -10,6 +10,7 @@ use lib.Seq.{take-at, drop-at}
 use Rattle.types.specs.Same.{same-numbers}
 use Rattle.types.proofs.Tests.{and-true, both, not-true, numbers-true, numbers-if}
 use Rattle.names.specs.Table.{Name, table, good-names, IsTable, split-first, split, names-of, name-text}
+use Rattle.names.specs.Theorems.{IsNamesOf, NamesOfIs, UniqueNames}
 
 -- ---- the names of any bytes
 -- more turns than bytes change nothing
@@ -43,7 +44,7 @@ split-table (n ∷ ns) =
 pub split-is : {t : List ℕ} {ns : List Name} → IsTable t ns → split t ≡ ns
 split-is {ns = ns} T = ap split (T .bytes) ∙ split-table ns
 
-pub unique : {t : List ℕ} {ns ms : List Name} → IsTable t ns → IsTable t ms → ns ≡ ms
+pub unique : {t : List ℕ} {ns ms : List Name} → UniqueNames t ns ms
 unique T U = sym (split-is T) ∙ split-is U
 
 passes : List ℕ → List Name → Bool
@@ -64,14 +65,14 @@ names-of-passed : (t : List ℕ) {b : Bool} → passes t (split t) ≡ b → nam
 unfolding names-of passes
 names-of-passed t e = ap (λ (b : Bool). where-passed b (split t)) e
 
-pub names-of-is : (t : List ℕ) (ns : List Name) → names-of t ≡ some ns → IsTable t ns
+pub names-of-is : NamesOfIs
 names-of-is t ns e = go (passes t (split t)) refl
   where
     go : (b : Bool) → passes t (split t) ≡ b → IsTable t ns
     go true p = let q = names-of-passed t p in let s : split t ≡ ns = cc in rw s at (passes-is t (split t) p)
     go false p = let q = names-of-passed t p in let z : _≡_ {A = ℕ} 0 1 = cc in absurd (omega arith)
 
-pub is-names-of : {t : List ℕ} {ns : List Name} → IsTable t ns → names-of t ≡ some ns
+pub is-names-of : {t : List ℕ} {ns : List Name} → IsNamesOf t ns
 is-names-of {t} T = names-of-passed t (is-passes t (split t) (rw (split-is T) T)) ∙ ap some (split-is T)
 
 pub no-names-of : {t : List ℕ} → ((ns : List Name) → IsTable t ns → ⊥) → names-of t ≡ none

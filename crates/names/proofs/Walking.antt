@@ -5,10 +5,11 @@ use mathlib.Core.List.{List, [], _∷_}
 use native.Mathlib.Omega.{arith}
 use native.Mathlib.Nat.{zero-min, min-zero, suc-min-suc}
 use native.Mathlib.Numerals.{add-one}
-use lib.ListN.{length, getD, take, drop, length-drop, drop-of-length-le}
-use lib.Seq.{drop-cons, drop-drop, take-nil}
-use Rattle.names.specs.Table.{Name, split, name-text}
-use Rattle.names.specs.Steps.{name-end}
+use lib.ListN.{length, getD, take, drop, length-append, length-drop, drop-of-length-le}
+use lib.Seq.{drop-cons, drop-drop, drop-nil, getD-drop, length-take-le}
+use Rattle.names.specs.Table.{Name, table, split, name-text}
+use Rattle.names.specs.Inner.{name-end, Lies}
+use Rattle.names.specs.declared.Stretch.{Stretch}
 use Rattle.names.proofs.Tables.{split-cons, split-nil}
 
 -- the bytes that `&t[a..e]` lends
@@ -50,33 +51,65 @@ module _ {t : List ℕ} {at e : ℕ} where
         rest = ap (λ (i : ℕ). drop i t) j ∙ sym (drop-drop (min b (length l)) (at + 1) t) ∙ drop-min b l;
       }
 
--- name `left` of what lies from `at` on is name k of the table
+-- the names from number k on are those from `left` on of what lies from `at` on, behind the bytes before
 pub record Walk (t : List ℕ) (k at left : ℕ) : Type 0 where
   pub high : at ≤ length t
-  pub text : name-text t k ≡ name-text (drop at t) left
+  pub after : drop k (split t) ≡ drop left (split (drop at t))
+  pub before : length (table (take k (split t))) ≡ at + length (table (take left (split (drop at t))))
+
+first-after : (k : ℕ) (ns : List Name) {ms : List Name} → drop k ns ≡ ms → getD ns k [] ≡ getD ms 0 []
+first-after k ns e = ap (λ (j : ℕ). getD ns j []) (omega arith) ∙ sym (getD-drop k ns 0 []) ∙ ap (λ (l : List Name). getD l 0 []) e
 
 module _ {t : List ℕ} {k : ℕ} where
   pub walk-start : Walk t k 0 k
-  walk-start = record { high = omega arith; text = refl }
+  walk-start = record { high = omega arith; after = refl; before = omega arith }
 
   module _ {at left e : ℕ} (W : Walk t k at left) where
-    there : at < length t → e ≡ name-end t at → {j : ℕ} → left ≡ j → name-text t k ≡ getD (part t (at + 1) e ∷ split (drop e t)) j []
-    unfolding name-text
-    there h p j =
-        let E = entry h p in
-        let q = split-cons (getD t at 0) (drop (at + 1) t) in
-        let s = ap split (E .front) ∙ q ∙ sym (λ i. E .text i ∷ split (E .rest i)) in
-        W .text ∙ (λ i. getD (s i) (j i) [])
+    module _ (h : at < length t) (p : e ≡ name-end t at) where
+      cons : split (drop at t) ≡ part t (at + 1) e ∷ split (drop e t)
+      cons =
+          let E = entry h p in
+          ap split (E .front) ∙ split-cons (getD t at 0) (drop (at + 1) t) ∙ sym (λ i. E .text i ∷ split (E .rest i))
 
-    pub walk-here : at < length t → e ≡ name-end t at → left ≡ 0 → part t (at + 1) e ≡ name-text t k
-    walk-here h p z = sym (there h p z)
+      part-length : length (part t (at + 1) e) ≡ e - (at + 1)
+      part-length = let E = entry h p in length-take-le (e - (at + 1)) (drop (at + 1) t) (simp length-drop (omega (arith, E .low, E .high)))
 
-    pub walk-more : at < length t → e ≡ name-end t at → (left ≡ 0 → ⊥) → Walk t k e (left - 1)
-    unfolding name-text
-    walk-more h p f = let j : left ≡ suc (left - 1) = omega arith in record { high = entry h p .high; text = there h p j }
+      pub walk-here : left ≡ 0 → Lies t k (record { start = at + 1; length = e - (at + 1) })
+      unfolding name-text table
+      walk-here z =
+          let E = entry h p in
+          let a : drop k (split t) ≡ split (drop at t) = W .after ∙ ap (λ (j : ℕ). drop j (split (drop at t))) z in
+          let b : length (table (take k (split t))) ≡ at + 0 = W .before ∙ ap (λ (j : ℕ). at + length (table (take j (split (drop at t))))) z in
+          record {
+            within = omega (arith, E .low, E .high);
+            text = sym (first-after k (split t) (a ∙ cons));
+            behind = λ l. omega arith;
+          }
 
-  pub walk-end : {at left : ℕ} → Walk t k at left → length t ≤ at → take (length t - at) (drop at t) ≡ name-text t k
+      pub walk-more : (left ≡ 0 → ⊥) → Walk t k e (left - 1)
+      unfolding table
+      walk-more f =
+          let E = entry h p in
+          let j : left ≡ suc (left - 1) = omega arith in
+          let n = part t (at + 1) e in
+          let ns = split (drop e t) in
+          let b : length (table (take k (split t))) ≡ at + length (table (n ∷ take (left - 1) ns)) = W .before ∙ (λ i. at + length (table (take (j i) (cons i)))) in
+          record {
+            high = E .high;
+            after = W .after ∙ (λ i. drop (j i) (cons i));
+            before = omega (arith, b, length-append n (table (take (left - 1) ns)), part-length, E .low);
+          }
+
+  pub walk-end : {at left : ℕ} → Walk t k at left → length t ≤ at → Lies t k (record { start = at; length = 0 })
   unfolding name-text
   walk-end {at} {left} W h =
-      let d : drop at t ≡ [] = drop-of-length-le t h in
-      ap (take (length t - at)) d ∙ take-nil (length t - at) ∙ sym (W .text ∙ ap (λ (l : List ℕ). getD (split l) left []) d ∙ ap (λ (l : List Name). getD l left []) split-nil)
+      let a : drop k (split t) ≡ [] = W .after ∙ ap (λ (l : List ℕ). drop left (split l)) (drop-of-length-le t h) ∙ ap (drop left) split-nil ∙ drop-nil left in
+      record {
+        within = omega (arith, W .high);
+        text = sym (first-after k (split t) a);
+        behind = λ l. absurd (omega (arith, length-drop k (split t), ap length a));
+      }
+
+-- the bytes of `&t[start..end]`, where the stretch ends with `end`
+pub lies-text : {t : List ℕ} {k : ℕ} {q : Stretch} → Lies t k q → take (q .start + q .length - q .start) (drop (q .start) t) ≡ name-text t k
+lies-text {t} {q = q} L = let n : q .start + q .length - q .start ≡ q .length = omega arith in ap (λ (i : ℕ). take i (drop (q .start) t)) n ∙ L .text

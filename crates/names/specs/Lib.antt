@@ -1,3 +1,4 @@
 pub mod Table
 pub mod Reply
-pub mod Steps
+pub mod Theorems
+pub mod Inner

@@ -5,7 +5,7 @@ use mathlib.Core.Bool.{Bool, true, false, _&&_}
 use mathlib.Core.List.{List, [], _∷_, _++_}
 use mathlib.Core.Option.{Option, none, some}
 use lib.ListN.{length, getD, take, drop}
-use lib.Dec.{leb}
+use lib.Dec.{leb, eqb}
 use Rattle.types.specs.Same.{same-numbers}
 use Rattle.types.specs.Order.{order, lexicographic, is-less}
 use Rattle.types.specs.declared.Ordering.{Ordering}
@@ -77,3 +77,8 @@ names-of t = elim (same-numbers t (table (split t)) && good-names (split t)) [ t
 unfoldable pub name-text : List ℕ → ℕ → Name
 unfolding split
 name-text t k = getD (split t) k []
+
+-- may a name with this length byte follow the last one?
+unfoldable pub may-follow : Name → ℕ → Name → Bool
+unfolding good-name name-order
+may-follow last b n = eqb b (length n) && (good-name n && is-less (name-order last n))

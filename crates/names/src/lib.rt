@@ -1,12 +1,13 @@
-// The name table that is lent with an arena. `compare` orders two names, `check_names` judges a table, and `name_at` gives
-// back the text of a name. specs/Table.antt says what a table is and specs/Reply.antt what its check answers;
-// proofs/Tables.antt, proofs/Numbers.antt and proofs/Replies.antt have what a caller may know of a table, of the numbers of
-// its names and of the check's answer.
+// The name table that is lent with an arena. `compare` orders two names, `check_names` judges a table, and `name_at` and
+// `name_stretch` give back the text of a name. specs/Table.antt says what a table is, specs/Reply.antt what its check and
+// `name_stretch` answer, and specs/Theorems.antt that the answer is the name's text; proofs/Tables.antt, proofs/Numbers.antt and
+// proofs/Replies.antt have what a caller may know of a table, of the numbers of its names and of the check's answer.
 use types::Ordering;
 ghost use mathlib.Core.Path.{_≡_};
 ghost use Rattle.names.specs.Table.{name-order, good-name, name-text};
-ghost use Rattle.names.specs.Reply.{table-reply, table-out};
-ghost use Rattle.names.specs.Steps.{name-end, may-follow};
+ghost use Rattle.names.specs.Reply.{table-reply, table-out, name-reply, placed-out};
+ghost use Rattle.names.specs.Inner.{name-end, Lies};
+ghost use Rattle.names.specs.Table.{may-follow};
 
 // How two names stand, which may be of different tables.
 pub fn compare(a: &[u8], b: &[u8]) -> Ordering
@@ -124,9 +125,15 @@ pub fn check_names(table: &[u8]) -> Table
     Table::Names(count)
 }
 
-// The text of name k, as a stretch of the table; empty where the table has no such name.
-pub fn name_at<'a>(table: &'a [u8], k: usize) -> &'a [u8]
-    ensures { λ r. ⌜ now r ≡ name-text (now (table .entry)) k ⌝ }
+// A stretch of the table: where it starts, and how many bytes it has.
+pub struct Stretch {
+    pub start: usize,
+    pub length: usize,
+}
+
+// Where the text of name k lies, at the end of the table where it has no such name.
+fn stretch_at(table: &[u8], k: usize) -> Stretch
+    ensures { λ r. ⌜ Lies (now (table .entry)) k r ⌝ }
 {
     let mut at = 0;
     let mut left = k;
@@ -134,10 +141,45 @@ pub fn name_at<'a>(table: &'a [u8], k: usize) -> &'a [u8]
         let start = at + 1;
         let end = end_of(table, at);
         if left == 0 {
-            return &table[start..end];
+            let length = end - start;
+            return Stretch { start, length };
         }
         at = end;
         left -= 1;
     }
-    &table[at..]
+    Stretch {
+        start: at,
+        length: 0,
+    }
+}
+
+// The text of name k, as a stretch of the table; empty where the table has no such name.
+pub fn name_at<'a>(table: &'a [u8], k: usize) -> &'a [u8]
+    ensures { λ r. ⌜ now r ≡ name-text (now (table .entry)) k ⌝ }
+{
+    let text = stretch_at(table, k);
+    let start = text.start;
+    let end = start + text.length;
+    &table[start..end]
+}
+
+// The stretch of a name's text, or the number of a refusal.
+pub enum Placed {
+    At(Stretch),
+    Refused(u32),
+}
+
+// Where the text of the name with this number lies in the table; 1 where the table breaks a rule, 4 where it has no such name.
+pub fn name_stretch(table: &[u8], number: u32) -> Placed
+    ensures { λ r. ⌜ placed-out r ≡ name-reply (now (table .entry)) number ⌝ }
+{
+    let names = check_names(table);
+    let Table::Names(count) = names else {
+        return Placed::Refused(1);
+    };
+    let k = types::arc_ty::wide(number);
+    if k >= count {
+        return Placed::Refused(4);
+    }
+    Placed::At(stretch_at(table, k))
 }

@@ -17,7 +17,7 @@ use Rattle.types.specs.Node.{below, rising, decode}
 use Rattle.types.specs.Fault.{head-fits, kind-body-fits, fits, kind-children, kind-names, children-in, names-in, first, fault}
 use Rattle.types.proofs.Lists.{below-by}
 use Rattle.types.proofs.Faults.{fault-decode}
-use Rattle.node_faults.specs.Steps.{body-fault, kind-fault}
+use Rattle.node_faults.specs.Inner.{body-fault, kind-fault}
 
 fault-first : (table nodes : ℕ) (ws : List ℕ) → fault table nodes ws ≡ first (fits ws) (below nodes (children-in ws) && below table (names-in ws)) (rising (names-in ws))
 unfolding fault

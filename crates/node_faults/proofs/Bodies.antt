@@ -12,7 +12,7 @@ use Rattle.words.specs.Words.{bit, child, child-zero, field-name, field-zero, f
 use Rattle.types.specs.Kind.{code, children, fields, name}
 use Rattle.types.specs.Node.{below, rising, children-of}
 use Rattle.types.specs.Fault.{each-zero, body-fits, first}
-use Rattle.node_faults.specs.Steps.{body-fault}
+use Rattle.node_faults.specs.Inner.{body-fault}
 
 pub no-word : (b : List ℕ) → length b ≡ 0 → 0 ≡ getD b 0 0
 no-word [] e = refl

@@ -8,7 +8,7 @@ use Rattle.words.specs.Words.{head-kind, head-open, head-dynamic, head-zero, he
 use Rattle.types.specs.Kind.{Kind, bottom, top, primitive, ty-var, list, lambda, attr-set, union, intersection, named, neg, disc, kind-of, body-count, body-of}
 use Rattle.types.specs.Fault.{flags-fit, kind-fits, head-fits}
 use Rattle.types.proofs.KindNumbers.{disc-kind-of}
-use Rattle.node_faults.specs.Steps.{within, count-fits}
+use Rattle.node_faults.specs.Inner.{within, count-fits}
 use Rattle.node_faults.proofs.KindCases.{no-kind, is-kind}
 
 -- ---- how many body words

@@ -8,7 +8,7 @@ use Rattle.types.specs.Kind as kinds
 use Rattle.types.specs.Kind.{Kind, bottom, top, primitive, ty-var, list, lambda, attr-set, union, intersection, named, neg, disc, kind-of}
 use Rattle.types.specs.Node.{below}
 use Rattle.types.specs.Fault.{body-fits}
-use Rattle.node_faults.specs.Steps.{body-fault, kind-fault}
+use Rattle.node_faults.specs.Inner.{body-fault, kind-fault}
 use Rattle.node_faults.proofs.KindCases.{no-kind, is-kind}
 
 module _ (table nodes k : ℕ) (d : Bool) (b : List ℕ) where

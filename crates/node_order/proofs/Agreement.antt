@@ -11,9 +11,10 @@ use Rattle.types.specs.Kind.{disc, body-count}
 use Rattle.types.specs.Node.{positive, negative, Field, field, primitive, list, lambda, attrset, named, Tag, members, bound, var, neg, form, Node, node, kind, data-of, field-names, child-words, body, head-of, encode, below, formed}
 use Rattle.types.proofs.Lists.{below-cons}
 use Rattle.types.proofs.Nodes.{cons, Formed, formed-parts, length-child-words, fields-back, encode-kind, encode-open, encode-dynamic}
-use Rattle.words.proofs.Words.{field-name-made, field-child-made}
+use Rattle.words.proofs.Words.{field-made}
 use Rattle.node_order.specs.NodeOrder.{entries, optional-names, keys-order, node-keys, node-order}
 use Rattle.node_order.specs.WordsOrder.{entry-of, optional-in, field-count, part-keys, word-keys, words-order}
+use Rattle.node_order.specs.Theorems.{WordsOrderEncode}
 
 -- ---- the field words and the other words of a body
 entries-back : (fs : List Field) (cs : List ℕ) → below (2 ^ 8) (field-names fs) ≡ true → below (2 ^ 12) cs ≡ true → length fs ≤ length cs → map entry-of (take (length fs) (child-words fs cs)) ≡ entries fs cs
@@ -24,7 +25,7 @@ entries-back (field o m ∷ fs) (c ∷ cs) n e l =
     let p = below-cons (2 ^ 12) c cs e in
     let q = below-cons (2 ^ 8) m (field-names fs) n in
     let fits : FieldFits m c = record { few-names = q .0; few-nodes = p .0 } in
-    cons (λ i. record { name = field-name-made o m c fits i; child = field-child-made o m c fits i }) (entries-back fs cs (q .1) (p .1) (omega arith))
+    cons (λ i. record { name = field-made o m c fits .name-back i; child = field-made o m c fits .child-back i }) (entries-back fs cs (q .1) (p .1) (omega arith))
 
 others-back : (fs : List Field) (cs : List ℕ) → drop (length fs) (child-words fs cs) ≡ drop (length fs) cs
 unfolding child-words
@@ -75,6 +76,6 @@ encode-keys (node t cs) e =
     (λ i. part-keys (head-of x) (take (field-count (encode-kind x e i) (encode-dynamic x e i) (length (body x))) (body x)) (drop (field-count (encode-kind x e i) (encode-dynamic x e i) (length (body x))) (body x)))
     ∙ (λ i. record { kind = encode-kind x e i; entries = S .fielded i; others = S .rest i; opened = bit (encode-open x e i); optional = S .optional i })
 
-pub words-order-encode : {a b : List ℕ} (x y : Node) → formed x ≡ true → formed y ≡ true → a ≡ encode x → b ≡ encode y → words-order a b ≡ node-order x y
+pub words-order-encode : {a b : List ℕ} → WordsOrderEncode a b
 unfolding words-order node-order
 words-order-encode x y p q d e = ap₂ words-order d e ∙ ap₂ keys-order (encode-keys x p) (encode-keys y q)

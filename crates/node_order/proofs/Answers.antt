@@ -8,7 +8,7 @@ use native.Mathlib.Omega.{arith}
 use types.Run.{OneOf}
 use denote.Enum.Declared.{tagOf}
 use Rattle.words.specs.Words.{bit}
-use Rattle.types.specs.Order.{order, then}
+use Rattle.types.specs.Order.{order, ordering-then}
 use Rattle.types.specs.declared.Ordering.{Ordering}
 use Rattle.types.specs.declared.Ordering.the-variants.{Less, Equal, Greater}
 use Rattle.types.proofs.Ordering.{the-type}
@@ -18,21 +18,21 @@ use Rattle.types.proofs.Orders.{order-less, order-equal, order-greater}
 abbrev pub Unequal : Ordering → Type 0
 Unequal o = OneOf (0 ∷ 2 ∷ []) (tagOf the-type o)
 
-first : (o p : Ordering) → Unequal o → then o p ≡ o
-unfolding then
+first : (o p : Ordering) → Unequal o → ordering-then o p ≡ o
+unfolding ordering-then
 first Less p u = refl
 first Equal p u = absurd (⊎-elim (λ e. omega arith) (λ e. omega arith) u)
 first Greater p u = refl
 
-module _ {w o : Ordering} (p : Ordering) (e : w ≡ then o p) where
+module _ {w o : Ordering} (p : Ordering) (e : w ≡ ordering-then o p) where
   -- an answer that leaves nothing open is the whole answer
   pub told : Unequal o → o ≡ w
   told u = sym (e ∙ first o p u)
 
   -- one that leaves all open lets the next one answer
   pub passed : o ≡ Equal → w ≡ p
-  unfolding then
-  passed z = e ∙ ap (λ (u : Ordering). then u p) z
+  unfolding ordering-then
+  passed z = e ∙ ap (λ (u : Ordering). ordering-then u p) z
 
 -- ---- numbers
 module _ {m n : ℕ} where

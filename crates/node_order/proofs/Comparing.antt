@@ -6,7 +6,7 @@ use native.Mathlib.Omega.{arith}
 use native.Mathlib.Numerals.{add-one}
 use lib.ListN.{length, getD, drop, drop-of-length-le}
 use lib.Seq.{drop-cons}
-use Rattle.types.specs.Order.{lexicographic, then}
+use Rattle.types.specs.Order.{lexicographic, ordering-then}
 use Rattle.types.specs.declared.Ordering.{Ordering}
 use Rattle.types.specs.declared.Ordering.the-variants.{Less, Equal, Greater}
 use Rattle.node_order.proofs.Answers.{Unequal, told, passed}
@@ -22,9 +22,9 @@ module _ {f : ℕ → ℕ → Ordering} {a b : List ℕ} where
 
   module _ {i : ℕ} (L : Level f a b i) where
     -- the items at i, then what follows
-    next : {o : Ordering} → i < length a → i < length b → o ≡ f (getD a i 0) (getD b i 0) → lexicographic f a b ≡ then o (lexicographic f (drop (suc i) a) (drop (suc i) b))
+    next : {o : Ordering} → i < length a → i < length b → o ≡ f (getD a i 0) (getD b i 0) → lexicographic f a b ≡ ordering-then o (lexicographic f (drop (suc i) a) (drop (suc i) b))
     unfolding lexicographic
-    next h k e = L .rest ∙ ap₂ (lexicographic f) (drop-cons a i 0 h) (drop-cons b i 0 k) ∙ ap (λ (w : Ordering). then w (lexicographic f (drop (suc i) a) (drop (suc i) b))) (sym e)
+    next h k e = L .rest ∙ ap₂ (lexicographic f) (drop-cons a i 0 h) (drop-cons b i 0 k) ∙ ap (λ (w : Ordering). ordering-then w (lexicographic f (drop (suc i) a) (drop (suc i) b))) (sym e)
 
     pub level-told : {o : Ordering} → i < length a → i < length b → o ≡ f (getD a i 0) (getD b i 0) → Unequal o → o ≡ lexicographic f a b
     level-told h k e = told _ (next h k e)

@@ -6,7 +6,8 @@ use native.Mathlib.Omega.{arith}
 use borrow.Author.Tests.{eq-eqb, ne-eqb, not-true, not-false}
 use Rattle.words.specs.Words.{bit, head-kind, head-dynamic}
 use Rattle.types.specs.Kind.{disc, attr-set, named}
-use Rattle.node_order.specs.WordsOrder.{field-count, FieldCount}
+use Rattle.node_order.specs.WordsOrder.{field-count}
+use Rattle.node_order.specs.Inner.{FieldCount}
 
 module _ (h n : ℕ) {k : ℕ} (e : k ≡ head-kind h) where
   pub count-named : k ≡ disc named → FieldCount h n n

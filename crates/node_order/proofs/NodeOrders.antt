@@ -18,7 +18,8 @@ use Rattle.types.proofs.Tests.{and-true}
 use Rattle.types.proofs.Orders.{order-total, Ranking, total-ranking, ranking-refl, by-ranking, then-ranking, then-equal, keys-total, lexicographic-total}
 use Rattle.types.proofs.KindNumbers.{kind-of-disc}
 use Rattle.types.proofs.Nodes.{nil, cons, Formed, formed-parts}
-use Rattle.node_order.specs.NodeOrder.{Entry, entry-order, Keys, keys-order, entries, optional-names, node-keys, node-order, Settled, OrdersNodes}
+use Rattle.node_order.specs.NodeOrder.{Entry, entry-order, Keys, keys-order, entries, optional-names, node-keys, node-order, Settled}
+use Rattle.node_order.specs.Theorems.{NodeOrderOrders, WellSettled}
 
 -- ---- keys
 entry-total : TotalOrder entry-order
@@ -159,13 +160,13 @@ keys-apart (node t cs) (node u ds) X Y e =
     sym (made-back t cs (formed-parts t cs (X .formed)) (X .rising)) ∙ ap₂ made m e ∙ made-back u ds (formed-parts u ds (Y .formed)) (Y .rising)
 
 -- ---- the theorems
-pub well-settled : (table nodes : ℕ) (x : Node) → well table nodes x ≡ true → Settled x
+pub well-settled : WellSettled
 unfolding well
 well-settled table nodes x e =
     let p = and-true (formed x) (linked table nodes x && rising (names (tag x))) e in
     record { formed = p .0; rising = and-true (linked table nodes x) (rising (names (tag x))) (p .1) .1 }
 
-pub node-order-orders : OrdersNodes node-order
+pub node-order-orders : NodeOrderOrders
 unfolding node-order
 node-order-orders =
     let R : Ranking node-order = by-ranking node-keys keys-ranking in

@@ -9,11 +9,12 @@ use lib.ListN.{length, getD, drop, drop-of-length-le}
 use lib.Seq.{drop-cons}
 use Rattle.words.specs.Words.{field-optional, field-name}
 use Rattle.types.specs.Node.{field, field-of}
-use Rattle.types.specs.Order.{order, lexicographic, then}
+use Rattle.types.specs.Order.{order, lexicographic, ordering-then}
 use Rattle.types.specs.declared.Ordering.{Ordering}
 use Rattle.types.specs.declared.Ordering.the-variants.{Less, Equal, Greater}
 use Rattle.node_order.specs.NodeOrder.{optional-names}
-use Rattle.node_order.specs.WordsOrder.{optional-in, optional-order, NextOptional}
+use Rattle.node_order.specs.WordsOrder.{optional-in}
+use Rattle.node_order.specs.Inner.{optional-order, NextOptional}
 use Rattle.node_order.proofs.Answers.{Unequal, told, passed}
 
 module _ (fs : List ℕ) (i : ℕ) (h : i < length fs) where
@@ -65,12 +66,12 @@ module _ {a b : List ℕ} where
 
   module _ {i j : ℕ} (F : Facing a b i j) where
     module _ {m n : ℕ} {o : Ordering} (h : i < length a) (k : j < length b) (p : m ≡ field-name (getD a i 0)) (q : n ≡ field-name (getD b j 0)) (e : o ≡ order m n) where
-      next : optional-order a b ≡ then o (lexicographic order (optional-in (drop (suc i) a)) (optional-in (drop (suc j) b)))
+      next : optional-order a b ≡ ordering-then o (lexicographic order (optional-in (drop (suc i) a)) (optional-in (drop (suc j) b)))
       unfolding lexicographic
       next =
           F .rest
           ∙ ap₂ (lexicographic order) (optional-here a i h (F .left h)) (optional-here b j k (F .right k))
-          ∙ ap (λ (w : Ordering). then w (lexicographic order (optional-in (drop (suc i) a)) (optional-in (drop (suc j) b)))) (sym (ap₂ order p q) ∙ sym e)
+          ∙ ap (λ (w : Ordering). ordering-then w (lexicographic order (optional-in (drop (suc i) a)) (optional-in (drop (suc j) b)))) (sym (ap₂ order p q) ∙ sym e)
 
       pub facing-told : Unequal o → o ≡ optional-order a b
       facing-told = told _ next

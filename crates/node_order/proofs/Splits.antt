@@ -7,7 +7,8 @@ use lib.ListN.{length, getD, take, drop, length-drop}
 use lib.Seq.{take-all, length-take-le}
 use Rattle.types.specs.declared.Ordering.{Ordering}
 use Rattle.node_order.specs.NodeOrder.{keys-order}
-use Rattle.node_order.specs.WordsOrder.{FieldCount, part-keys, body-keys, words-order}
+use Rattle.node_order.specs.Inner.{FieldCount}
+use Rattle.node_order.specs.WordsOrder.{part-keys, body-keys, words-order}
 
 module _ {h m : ℕ} (b : List ℕ) (F : FieldCount h (length b) m) where
   pub fields-taken : m ≡ length (take m b)

@@ -1,2 +1,4 @@
 pub mod NodeOrder
 pub mod WordsOrder
+pub mod Theorems
+pub mod Inner

@@ -1,7 +1,6 @@
 -- Node order as a program reads it off words, whatever they are. That on the words of formed nodes it is `node-order` is the theorem
 -- `words-order-encode`.
-use Prim.Native.Nat.{ℕ, _-_, _<_, _≤_}
-use mathlib.Core.Path.{_≡_}
+use Prim.Native.Nat.{ℕ, _-_}
 use mathlib.Core.Bool.{Bool, true, false}
 use mathlib.Core.List.{List, map}
 use lib.ListN.{length, getD, take, drop}
@@ -9,42 +8,22 @@ use lib.Dec.{eqb}
 use Rattle.words.specs.Words.{bit, head-kind, head-open, head-dynamic, field-optional, field-name, child}
 use Rattle.types.specs.Kind.{disc, attr-set, named}
 use Rattle.types.specs.Node.{field-of}
-use Rattle.types.specs.Order.{order, lexicographic, by}
+use Rattle.types.specs.Order.{by}
 use Rattle.types.specs.declared.Ordering.{Ordering}
-use Rattle.node_order.specs.NodeOrder.{Entry, entry-order, Keys, keys-order, optional-names}
+use Rattle.node_order.specs.NodeOrder.{Entry, Keys, keys-order, optional-names}
 
 -- what a field word says besides whether the field is optional
 abbrev pub entry-of : ℕ → Entry
 entry-of w = record { name = field-name w; child = child w }
-
--- field words by name, then by child
-unfoldable pub field-order : ℕ → ℕ → Ordering
-unfolding by entry-order field-name child
-field-order = by entry-of entry-order
-
--- words of a list by whether they are field words; others stand as numbers do
-abbrev pub item-order : Bool → ℕ → ℕ → Ordering
-item-order true = field-order
-item-order false = order
 
 -- the names of the optional ones among field words
 unfoldable pub optional-in : List ℕ → List ℕ
 unfolding optional-names field-optional field-name
 optional-in ws = optional-names (map field-of ws)
 
--- lists of field words by their optional names
-unfoldable pub optional-order : List ℕ → List ℕ → Ordering
-unfolding by lexicographic order optional-in
-optional-order = by optional-in (lexicographic order)
-
 -- how many of so many body words are field words in a node of this kind: in a set all but the dynamic part, in a `Named` all
 unfoldable pub field-count : ℕ → Bool → ℕ → ℕ
 field-count k d n = elim (eqb k (disc named)) [ true ↦ n | false ↦ elim (eqb k (disc attr-set)) [ true ↦ n - bit d | false ↦ 0 ] ]
-
--- r is that count under this head
-pub record FieldCount (h n r : ℕ) : Type 0 where
-  pub value : r ≡ field-count (head-kind h) (head-dynamic h) n
-  pub within : r ≤ n
 
 -- the keys in a head, its field words and its other words
 unfoldable pub part-keys : ℕ → List ℕ → List ℕ → Keys
@@ -73,9 +52,3 @@ word-keys ws = body-keys (getD ws 0 0) (drop 1 ws)
 unfoldable pub words-order : List ℕ → List ℕ → Ordering
 unfolding by keys-order word-keys
 words-order = by word-keys keys-order
-
--- r is the first place, from this one on, of an optional field, or past all fields
-pub record NextOptional (fields : List ℕ) (from r : ℕ) : Type 0 where
-  pub low : from ≤ r
-  pub passed : optional-in (drop from fields) ≡ optional-in (drop r fields)
-  pub there : r < length fields → field-optional (getD fields r 0) ≡ true

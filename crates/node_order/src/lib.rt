@@ -11,8 +11,8 @@ ghost use lib.ListN.{getD, drop};
 ghost use Rattle.words.specs.Words.{bit};
 ghost use Rattle.types.specs.Order.{order, lexicographic};
 ghost use Rattle.node_order.specs.NodeOrder.{keys-order};
-ghost use Rattle.node_order.specs.WordsOrder.{field-order, item-order, FieldCount, optional-order, NextOptional, part-keys};
-ghost use Rattle.node_order.specs.WordsOrder.{body-keys, words-order};
+ghost use Rattle.node_order.specs.Inner.{field-order, item-order, FieldCount, optional-order, NextOptional};
+ghost use Rattle.node_order.specs.WordsOrder.{part-keys, body-keys, words-order};
 
 fn number_order(m: usize, n: usize) -> Ordering
     ensures { λ r. ⌜ r ≡ order m n ⌝ }

@@ -7,7 +7,7 @@ use native.Mathlib.Omega.{arith}
 use lib.ListN.{length, getD}
 use lib.Dec.{eqb}
 use borrow.Author.Tests.{eqb-true}
-use Rattle.words.specs.Words.{head-kind}
+use Rattle.words.specs.Words.{head-kind, child}
 use Rattle.types.specs.Kind.{disc, body-count}
 use Rattle.types.specs.Node.{positive, negative, Tag, members, bound, var, neg, form, primitive, list, lambda, attrset, named, field, Node, node, tag, kind, children, head-of, encode, formed}
 use Rattle.types.specs.Arena.{Arena, at}
@@ -18,8 +18,10 @@ use Rattle.types.proofs.Tests.{true-false}
 use Rattle.types.proofs.Nodes.{encode-kind, length-child-words, formed-parts}
 use Rattle.types.proofs.Faults.{children-encode}
 use Rattle.types.proofs.Sound.{at-formed, child-lower}
-use Rattle.node_store.specs.Stored.{InRange, NodeAt}
-use Rattle.node_reading.specs.Nodes.{KindAt, ParentAt, FirstChild}
+use Rattle.node_store.specs.Inner.Stored.{InRange, NodeAt}
+use Rattle.node_reading.proofs.Offspring.{as-many, child-is}
+use Rattle.node_reading.specs.Nodes.{ChildWords}
+use Rattle.node_reading.specs.Inner.{KindAt, ParentAt, FirstChild}
 
 pub no-head : (ws : List ℕ) → length ws ≡ 0 → 0 ≡ head-kind (getD ws 0 0)
 unfolding head-kind
@@ -76,18 +78,18 @@ module _ {w s : List ℕ} {c : Counters} {n : ℕ} (P : ParentAt w s c n) where
   pub first-lower : {table : ℕ} {a : Arena} → Holds table w s c a → getD (children (at a n)) 0 0 < n
   first-lower {table} {a} H = child-lower table a (H .good) n (within H) 0 (first H)
 
-  pub child-there : {ws : List ℕ} → NodeAt w s c n ws → 0 < length (children-in ws)
-  child-there {ws} W =
+  pub child-there : {ws b : List ℕ} → NodeAt w s c n ws → ChildWords ws b → 0 < length b
+  child-there {ws} W u =
       let H = P .lent .holds in
       let a = P .lent .view in
       let e : length (children-in ws) ≡ length (children (at a n)) = ap (λ (x : List ℕ). length (children-in x)) (W .is _ a H) ∙ ap length (children-encode (at a n) (at-formed _ a (H .good) n (within H))) in
       let f = first H in
-      omega (arith, e, f)
+      omega (arith, e, f, as-many u)
 
-  pub child-read : {ws : List ℕ} {r x : ℕ} → NodeAt w s c n ws → x ≡ getD (children-in ws) 0 0 → r ≡ x → FirstChild w s c n r
-  child-read W e q = record {
+  pub child-read : {ws b : List ℕ} {r x : ℕ} → NodeAt w s c n ws → ChildWords ws b → x ≡ child (getD b 0 0) → r ≡ x → FirstChild w s c n r
+  child-read W u e q = record {
     is = λ table a H.
-        q ∙ e ∙ ap (λ (x : List ℕ). getD (children-in x) 0 0) (W .is table a H) ∙ ap (λ (x : List ℕ). getD x 0 0) (children-encode (at a n) (at-formed table a (H .good) n (within H)));
+        q ∙ child-is u 0 e ∙ ap (λ (x : List ℕ). getD (children-in x) 0 0) (W .is table a H) ∙ ap (λ (x : List ℕ). getD x 0 0) (children-encode (at a n) (at-formed table a (H .good) n (within H)));
   }
 
   pub first-range : {m : ℕ} → FirstChild w s c n m → InRange w s c m

@@ -4,14 +4,15 @@ use mathlib.Core.Path.{_≡_, refl, sym, ap, _∙_}
 use mathlib.Core.List.{List, [], _∷_, map}
 use mathlib.Core.Option.{Option, none, some}
 use native.Mathlib.Omega.{arith}
-use native.Mathlib.Numerals.{add-one}
 use native.Mathlib.Decide.{decLt}
-use lib.ListN.{length, getD, length-map, List·getD-map}
+use lib.ListN.{length, getD, take, drop, length-map, List·getD-map}
 use Rattle.words.specs.Words.{head-kind, child}
 use Rattle.types.specs.Kind as kinds
 use Rattle.types.specs.Kind.{Kind, disc, kind-of, body-of}
 use Rattle.types.specs.Node.{children-of}
 use Rattle.types.specs.Fault.{kind-children, children-in}
+use Rattle.node_reading.specs.Nodes.{ChildWords}
+use Rattle.node_order.proofs.Splits.{body-lent}
 use Rattle.node_faults.proofs.KindCases.{no-kind, is-kind}
 
 low : (k : Kind) (b : List ℕ) → disc k < 4 → children-of (body-of k) b ≡ []
@@ -56,35 +57,48 @@ module _ (h : ℕ) (b : List ℕ) where
   in-none : 10 < head-kind h → children-in (h ∷ b) ≡ []
   in-none l = by-kind none (no-kind (head-kind h) l)
 
--- ---- how many
+-- ---- the words that hold them
 pub no-words : (ws : List ℕ) → length ws ≡ 0 → 0 ≡ length (children-in ws)
 unfolding children-in
 no-words [] e = refl
 no-words (h ∷ b) e = absurd (omega arith)
 
+pub empty-words : (ws : List ℕ) → length ws ≡ 0 → ChildWords ws ws
+unfolding children-in
+empty-words [] e = record { is = refl }
+empty-words (h ∷ b) e = absurd (omega arith)
+
 module _ {k : ℕ} (ws : List ℕ) (e : k ≡ head-kind (getD ws 0 0)) (n : length ws ≡ 0 → ⊥) where
-  pub few-kinds : k < 4 → 0 ≡ length (children-in ws)
+  pub few-kinds : k < 4 → ChildWords ws []
   few-kinds l = go ws e n
     where
-      go : (ws : List ℕ) → k ≡ head-kind (getD ws 0 0) → (length ws ≡ 0 → ⊥) → 0 ≡ length (children-in ws)
+      go : (ws : List ℕ) → k ≡ head-kind (getD ws 0 0) → (length ws ≡ 0 → ⊥) → ChildWords ws []
       go [] e n = absurd (n refl)
-      go (h ∷ b) e n = ap length (sym (in-low h b (omega arith)))
+      go (h ∷ b) e n = record { is = sym (in-low h b (omega arith)) }
 
-  pub past-kinds : 10 < k → 0 ≡ length (children-in ws)
+  pub past-kinds : 10 < k → ChildWords ws []
   past-kinds l = go ws e n
     where
-      go : (ws : List ℕ) → k ≡ head-kind (getD ws 0 0) → (length ws ≡ 0 → ⊥) → 0 ≡ length (children-in ws)
+      go : (ws : List ℕ) → k ≡ head-kind (getD ws 0 0) → (length ws ≡ 0 → ⊥) → ChildWords ws []
       go [] e n = absurd (n refl)
-      go (h ∷ b) e n = ap length (sym (in-none h b (omega arith)))
+      go (h ∷ b) e n = record { is = sym (in-none h b (omega arith)) }
 
-  pub all-words : 4 ≤ k → k ≤ 10 → length ws - 1 ≡ length (children-in ws)
+  pub all-words : 4 ≤ k → k ≤ 10 → ChildWords ws (take (length ws - 1) (drop 1 ws))
   all-words l m = go ws e n
     where
-      go : (ws : List ℕ) → k ≡ head-kind (getD ws 0 0) → (length ws ≡ 0 → ⊥) → length ws - 1 ≡ length (children-in ws)
+      go : (ws : List ℕ) → k ≡ head-kind (getD ws 0 0) → (length ws ≡ 0 → ⊥) → ChildWords ws (take (length ws - 1) (drop 1 ws))
       go [] e n = absurd (n refl)
-      go (h ∷ b) e n = let q = ap length (in-high h b (omega arith) (omega arith)) ∙ length-map b child in omega arith
+      go (h ∷ b) e n = record { is = ap (map child) (body-lent (h ∷ b)) ∙ sym (in-high h b (omega arith) (omega arith)) }
 
--- ---- and which
+-- ---- as many, in their order
+module _ {ws b : List ℕ} (B : ChildWords ws b) where
+  pub as-many : length b ≡ length (children-in ws)
+  as-many = sym (length-map b child) ∙ ap length (B .is)
+
+  pub child-is : (i : ℕ) {m : ℕ} → m ≡ child (getD b i 0) → m ≡ getD (children-in ws) i 0
+  unfolding child
+  child-is i q = q ∙ sym (List·getD-map child b i 0) ∙ ap (λ (d : List ℕ). getD d i 0) (B .is)
+
 some-child : (h : ℕ) (b : List ℕ) (i : ℕ) → i < length (children-in (h ∷ b)) → children-in (h ∷ b) ≡ map child b
 some-child h b i l = go (decLt (head-kind h) 4) (decLt 10 (head-kind h))
   where
@@ -100,15 +114,6 @@ module _ (ws : List ℕ) (i : ℕ) (l : i < length (children-in ws)) where
       go : (ws : List ℕ) → i < length (children-in ws) → i + 1 < length ws
       go [] l = absurd (omega (arith, no-words [] refl))
       go (h ∷ b) l = omega (arith, ap length (some-child h b i l), length-map b child)
-
-  pub child-there : {r : ℕ} → r ≡ child (getD ws (i + 1) 0) → r ≡ getD (children-in ws) i 0
-  unfolding child
-  child-there e = e ∙ go ws l
-    where
-      go : (ws : List ℕ) → i < length (children-in ws) → child (getD ws (i + 1) 0) ≡ getD (children-in ws) i 0
-      go [] l = absurd (omega (arith, no-words [] refl))
-      go (h ∷ b) l =
-          ap (λ (j : ℕ). child (getD (h ∷ b) j 0)) (add-one i) ∙ sym (List·getD-map child b i 0) ∙ ap (λ (d : List ℕ). getD d i 0) (sym (some-child h b i l))
 
   pub child-small : getD (children-in ws) i 0 < 4096
   unfolding child

@@ -1,14 +1,15 @@
 // What is read of a node: its kind, and the first child of a lambda, a named type or `Neg`.
-use crate::children::child_at;
+use crate::children::child_words;
 use node_store::stored::node_at;
 use types::Counters;
 use types::arc_ty::Head;
+use types::arc_ty::child;
 use types::arc_ty::wide;
 ghost use mathlib.Core.Path.{_≡_};
 ghost use lib.ListN.{getD};
 ghost use Rattle.words.specs.Words.{head-kind};
-ghost use Rattle.node_store.specs.Stored.{InRange};
-ghost use Rattle.node_reading.specs.Nodes.{KindAt, ParentAt, FirstChild};
+ghost use Rattle.node_store.specs.Inner.Stored.{InRange};
+ghost use Rattle.node_reading.specs.Inner.{KindAt, ParentAt, FirstChild};
 
 // The kind in the head of a node's words.
 pub fn kind_in(node: &[u32]) -> u32
@@ -34,5 +35,6 @@ pub fn first_child(words: &[u32], starts: &[u32], c: Counters, n: usize) -> usiz
     requires { ⌜ ParentAt (now words) (now starts) c n ⌝ }
     ensures { λ r. ⌜ FirstChild (now (words .entry)) (now (starts .entry)) c n r ⌝ }
 {
-    wide(child_at(node_at(words, starts, c, n), 0))
+    let body = child_words(node_at(words, starts, c, n));
+    wide(child(body[0]))
 }

@@ -22,8 +22,8 @@ use Rattle.types.proofs.Nodes.{length-encode}
 use Rattle.types.proofs.Decodes.{well-parts, Faultless, faultless}
 use Rattle.types.proofs.Sound.{find-at}
 use Rattle.types.proofs.Addresses.{word-room, start-room, words-more, starts-more, flat-more}
-use Rattle.node_store.specs.Stored.{Searched, FoundIn, found-at}
-use Rattle.node_store.specs.Added.{Room, Pasted, Fresh, Interns, Under}
+use Rattle.node_store.specs.Inner.Stored.{Searched, FoundIn, found-at}
+use Rattle.node_store.specs.Inner.Added.{Room, Pasted, Fresh, Interns, Under}
 use Rattle.node_store.specs.Intern.{has-room, intern}
 use Rattle.node_store.specs.declared.stored.Found.{Found}
 use Rattle.node_store.specs.declared.stored.Found.the-variants as found

@@ -14,8 +14,9 @@ use Rattle.types.specs.declared.Counters.{Counters}
 use Rattle.types.proofs.Lists.{length-padded}
 use Rattle.types.proofs.Growth.{at-new}
 use Rattle.types.proofs.Sound.{find-at, at-find, sound-more}
-use Rattle.types.proofs.Addresses.{length-heads, word-room, start-room}
+use Rattle.types.proofs.Addresses.{length-heads, ext-flat, ext-heads, word-room, start-room}
 use Rattle.node_store.specs.Intern.{has-room, intern}
+use Rattle.node_store.specs.Theorems.{InternDone, InternHolds}
 use Rattle.node_store.proofs.Additions.{intern-stored, intern-full, intern-new, room-parts}
 
 -- a finished interning is one of two
@@ -84,3 +85,15 @@ done-holds {table} {w} {s} {c} {x} {a} {n} {b} H g D =
       starts = ap (λ (i : ℕ). starts-of i b) (sym l);
       good = done-sound table (H .good) g D;
     }
+
+-- ---- the theorems
+pub intern-done : InternDone
+intern-done words starts x a n b e =
+    let D = done words starts x a n b e in
+    let w = ext-flat (done-ext D) in
+    let s = ext-heads (done-ext D) in
+    let p = done-at D in
+    record { old = done-ext D; added-words = w .rest; words = w .is; added-starts = s .rest; starts = s .is; inside = p .0; node = p .1 }
+
+pub intern-holds : InternHolds
+intern-holds table w s c x a n b H g e = done-holds H g (done (length w) (length s) x a n b e)

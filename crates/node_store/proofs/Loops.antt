@@ -10,7 +10,7 @@ use lib.Seq.{ext-getD, paste, paste-zero, paste-suc}
 use borrow.Author.Count.{below-more}
 use Rattle.types.specs.Same.{same-numbers}
 use Rattle.types.proofs.Tests.{numbers-if, numbers-not}
-use Rattle.node_store.specs.Added.{Room, Pasted}
+use Rattle.node_store.specs.Inner.Added.{Room, Pasted}
 
 -- ---- the same words so far
 pub record Agree (a b : List ℕ) (i : ℕ) : Type 0 where

@@ -12,7 +12,7 @@ use Rattle.types.specs.Arena.{Arena, at, find, Ext, here}
 use Rattle.types.specs.Memory.{Holds}
 use Rattle.types.specs.declared.Counters.{Counters}
 use Rattle.types.proofs.Growth.{ext-tail, ext-at, at-new}
-use Rattle.node_store.specs.Stored.{Sought, IsThere, Searched, FoundIn}
+use Rattle.node_store.specs.Inner.Stored.{Sought, IsThere, Searched, FoundIn}
 use Rattle.node_store.specs.declared.stored.Found.the-variants as found
 
 -- the nodes not yet looked at: x is among them or nowhere

@@ -22,7 +22,7 @@ use Rattle.types.proofs.Addresses.{start-room, after-node, from-start, node-roo
 use Rattle.types.specs.declared.Ordering.{Ordering}
 use Rattle.node_order.specs.WordsOrder.{words-order}
 use Rattle.node_order.proofs.Agreement.{words-order-encode}
-use Rattle.node_store.specs.Stored.{Lent, InRange, NodeAt, IsThere, Ordered}
+use Rattle.node_store.specs.Inner.Stored.{Lent, InRange, NodeAt, IsThere, Ordered}
 
 module _ {w s : List ℕ} {c : Counters} {n : ℕ} where
   node-formed : {table : ℕ} {a : Arena} → Holds table w s c a → n < c .nodes → formed (at a n) ≡ true

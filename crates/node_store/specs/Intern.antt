@@ -25,7 +25,12 @@ unfolding find has-room
 intern words starts x a =
     elim (find x a) [ some n ↦ ok (n, a) | none ↦ elim (has-room words starts (x ∷ a)) [ true ↦ ok (length a, x ∷ a) | false ↦ refuse 7 ] ]
 
--- the enum's cases: a node's number with the counters after; the number of a refusal, which leaves the counters as they were
+-- the enum's cases, without counters: a node's number; the number of a refusal
+abbrev pub interned-out : Interned → Out ℕ
+interned-out (interned.Node n d) = ok n
+interned-out (interned.Refused e) = refuse e
+
+-- the same with the counters after, which a refusal leaves as they were
 abbrev pub left : Counters → Interned → List ℕ → List ℕ → Reply ℕ
 left c (interned.Node n d) w s = reply (ok n) d w s
 left c (interned.Refused e) w s = reply (refuse e) c w s

@@ -1,3 +1,3 @@
-pub mod Stored
 pub mod Intern
-pub mod Added
+pub mod Theorems
+pub mod Inner

@@ -2,7 +2,10 @@
 use crate::stored::Found;
 use crate::stored::find;
 use types::Counters;
-ghost use Rattle.node_store.specs.Added.{Room, Pasted, Fresh, Interns};
+ghost use mathlib.Core.Path.{_≡_};
+ghost use Rattle.types.specs.Out.{number};
+ghost use Rattle.node_store.specs.Intern.{interned-out};
+ghost use Rattle.node_store.specs.Inner.Added.{Room, Pasted, Fresh, Interns};
 
 // The words of `node` written from `at` on.
 fn put(words: &mut [u32], at: usize, node: &[u32])
@@ -21,6 +24,18 @@ fn put(words: &mut [u32], at: usize, node: &[u32])
 pub enum Interned {
     Node(u32, Counters),
     Refused(u32),
+}
+
+impl Interned {
+    // The number of a refusal, for an answer of another type.
+    pub fn refusal(self) -> u32
+        ensures { λ r. ⌜ r ≡ number (interned-out self) ⌝ }
+    {
+        match self {
+            Interned::Node(_, _) => 0,
+            Interned::Refused(number) => number,
+        }
+    }
 }
 
 // The number of the node with the words of `node`, which is added where the arena has none. For callers that know the arena

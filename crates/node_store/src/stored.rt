@@ -6,7 +6,7 @@ use types::arc_ty::Head;
 use types::arc_ty::wide;
 ghost use mathlib.Core.Path.{_≡_};
 ghost use Rattle.types.specs.Same.{same-numbers};
-ghost use Rattle.node_store.specs.Stored.{InRange, NodeAt, Sought, IsThere, Searched, FoundIn, Ordered};
+ghost use Rattle.node_store.specs.Inner.Stored.{InRange, NodeAt, Sought, IsThere, Searched, FoundIn, Ordered};
 
 // The words of node n.
 pub fn node_at<'a>(words: &'a [u32], starts: &[u32], c: Counters, n: usize) -> &'a [u32]

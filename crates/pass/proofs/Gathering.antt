@@ -5,6 +5,7 @@ use mathlib.Core.Bool.{Bool, true, false}
 use mathlib.Core.List.{List, [], _∷_}
 use native.Mathlib.Omega.{arith}
 use lib.ListN.{length, getD, take}
+use Rattle.words.specs.Words.{child}
 use Rattle.types.specs.Out.{Out, ok, _>>=_}
 use Rattle.types.specs.Node.{Polarity, members, bound, node, tag, children, encode, below}
 use Rattle.types.specs.Arena.{Arena, at, Ext, here}
@@ -18,11 +19,13 @@ use Rattle.types.proofs.Sound.{at-formed, child-lower, children-below}
 use Rattle.types.proofs.Lists.{below-at}
 use Rattle.types.proofs.Faults.{children-encode}
 use Rattle.types.proofs.Memories.{unique}
-use Rattle.node_store.specs.Stored.{InRange, NodeAt}
+use Rattle.node_store.specs.Inner.Stored.{InRange, NodeAt}
 use Rattle.node_store.specs.Intern.{left}
 use Rattle.node_store.specs.declared.added.Interned.{Interned}
 use Rattle.node_store.specs.declared.added.Interned.the-variants as interned
 use Rattle.node_store.proofs.Interning.{done, done-ext}
+use Rattle.node_reading.specs.Nodes.{ChildWords}
+use Rattle.node_reading.proofs.Offspring.{as-many, child-is}
 use Rattle.recursion.specs.Jobs.{Job, each}
 use Rattle.recursion.proofs.Answers.{ok-same, bind-parts}
 use Rattle.recursion.proofs.Members.{index-of, member-below}
@@ -31,16 +34,16 @@ use Rattle.simplification.proofs.Members.{remaining-from}
 use Rattle.simplification.proofs.Rebuilding.{has-member}
 use Rattle.simplification.proofs.Applying.{apply-kept, apply-at, step-list, gather-decided, gather-open}
 use Rattle.simplification.proofs.Running.{apply-sound}
-use Rattle.rebuilding.specs.Children.{setting, Agrees, Remains}
-use Rattle.member_lists.specs.Closed.{Closing, ClosesTo, Closes}
-use Rattle.member_lists.specs.Closed as closing
-use Rattle.pass.specs.Caches.{Caches}
-use Rattle.pass.specs.Applied.{Leads, Ready, Applies, ListAt, ListReady, FirstMember, EachReady, AppliesEach}
+use Rattle.rebuilding.specs.Inner.Children.{setting, Agrees, Remains}
+use Rattle.member_lists.specs.Inner.Closed.{Closing, ClosesTo, Closes}
+use Rattle.member_lists.specs.Inner.Closed as closing
+use Rattle.pass.specs.Inner.Caches.{Caches}
+use Rattle.pass.specs.Inner.Applied.{Leads, Ready, Applies, ListAt, ListReady, FirstMember, EachReady, AppliesEach}
 use Rattle.rebuilding.specs.declared.children.Children.{Children}
 use Rattle.member_lists.specs.declared.Closed.{Closed}
 use Rattle.member_lists.specs.declared.Closed.the-variants as closed
-use Rattle.pass.specs.declared.apply.Run.{Run}
-use Rattle.pass.specs.declared.apply.Run.the-variants as run
+use Rattle.recursion.specs.declared.Run.{Run}
+use Rattle.recursion.specs.declared.Run.the-variants as run
 use Rattle.pass.proofs.Leading.{leads-ext, caches-moved, stop-leads, EachDone, each-done, each-stop, reply-leads}
 use Rattle.pass.proofs.Turns.{agrees-kept}
 use Rattle.pass.proofs.Others.{ready-range, ready-inside}
@@ -54,14 +57,14 @@ module _ {w s : List ℕ} {c : Counters} {n : ℕ} (L : ListAt w s c n) where
   read e N table a H =
       ap children-in (N .is table a H ∙ ap (λ (y : ℕ). encode (at a y)) e) ∙ children-encode (at a n) (at-formed table a (H .good) n (within H))
 
-  pub member-there : {x : ℕ} → x ≡ n → {ws : List ℕ} → NodeAt w s c x ws → 0 < length (children-in ws)
-  member-there e {ws} N =
+  pub member-there : {x : ℕ} → x ≡ n → {ws b : List ℕ} → NodeAt w s c x ws → ChildWords ws b → 0 < length b
+  member-there e {ws} N B =
       let H = L .lent .holds in
       let h = has-member (L .lent .table) (L .lent .view) (H .good) n (within H) (L .side) (L .tag-is) in
-      subst (λ (y : List ℕ). 0 < length y) (sym (read e N (L .lent .table) (L .lent .view) H)) h
+      omega (arith, h, as-many B, ap length (read e N (L .lent .table) (L .lent .view) H))
 
-  pub member-read : {x : ℕ} → x ≡ n → {ws : List ℕ} {r : ℕ} → NodeAt w s c x ws → r ≡ getD (children-in ws) 0 0 → FirstMember w s c n r
-  member-read e N q = record { is = λ table a H. q ∙ ap (λ (y : List ℕ). getD y 0 0) (read e N table a H) }
+  pub member-read : {x : ℕ} → x ≡ n → {ws b : List ℕ} {r : ℕ} → NodeAt w s c x ws → ChildWords ws b → r ≡ child (getD b 0 0) → FirstMember w s c n r
+  member-read e N B q = record { is = λ table a H. child-is B 0 q ∙ ap (λ (y : List ℕ). getD y 0 0) (read e N table a H) }
 
 -- ---- what becomes of the list grew from what it was gathered in
 gather-ext : (lw ls : ℕ) (k : Polarity) (first : Job) (ms : List ℕ) (b : Arena) (m : ℕ) (d : Arena) → (first b ≡ ok (m, d) → Ext b d) → gather lw ls k first ms b ≡ ok (m, d) → Ext b d

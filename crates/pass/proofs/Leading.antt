@@ -15,15 +15,15 @@ use Rattle.types.proofs.Growth.{ext-length, ext-trans}
 use Rattle.node_store.specs.Intern.{left}
 use Rattle.node_store.specs.declared.added.Interned.{Interned}
 use Rattle.node_store.specs.declared.added.Interned.the-variants as interned
-use Rattle.recursion.specs.Work.{Stands}
+use Rattle.recursion.specs.Inner.Work.{Stands}
 use Rattle.recursion.proofs.Leading.{stands-ext, holds-stands, Stopped}
 use Rattle.simplification.proofs.Caching.{cache-law}
-use Rattle.rebuilding.specs.Children.{setting}
-use Rattle.pass.specs.Caches.{Hit, Caches}
-use Rattle.pass.specs.Applied.{Leads, done, stop, LeadsEach}
-use Rattle.pass.specs.Applied as applied
-use Rattle.pass.specs.declared.apply.Run.{Run}
-use Rattle.pass.specs.declared.apply.Run.the-variants as run
+use Rattle.rebuilding.specs.Inner.Children.{setting}
+use Rattle.pass.specs.Inner.Caches.{Hit, Caches}
+use Rattle.pass.specs.Inner.Applied.{Leads, done, stop, LeadsEach}
+use Rattle.pass.specs.Inner.Applied as applied
+use Rattle.recursion.specs.declared.Run.{Run}
+use Rattle.recursion.specs.declared.Run.the-variants as run
 
 -- ---- the caches in a grown arena
 pub caches-kept : (table : ℕ) {lw ls : ℕ} {R : ℕ → Bool} {a b : Arena} {dropped kept : List ℕ} → ls ≤ 4096 → sound table a ≡ true → sound table b ≡ true → Ext a b → Caches lw ls R a dropped kept → Caches lw ls R b dropped kept

@@ -16,24 +16,24 @@ use Rattle.types.specs.Memory.{Holds}
 use Rattle.types.specs.declared.Counters.{Counters}
 use Rattle.types.proofs.Growth.{ext-length, ext-at}
 use Rattle.types.proofs.Sound.{children-below}
-use Rattle.node_store.specs.Stored.{InRange}
+use Rattle.node_store.specs.Inner.Stored.{InRange}
 use Rattle.node_store.specs.Intern.{intern}
 use Rattle.node_store.specs.declared.added.Interned.{Interned}
 use Rattle.node_store.specs.declared.added.Interned.the-variants as interned
 use Rattle.node_store.proofs.Interning.{done, done-ext}
-use Rattle.node_reading.specs.Nodes.{KindAt}
+use Rattle.node_reading.specs.Inner.{KindAt}
 use Rattle.recursion.specs.Jobs.{Job, each, rebuild}
 use Rattle.simplification.specs.Pass.{list-kind, apply}
 use Rattle.simplification.proofs.Applying.{apply-at, step-other}
 use Rattle.simplification.proofs.Running.{apply-sound}
 use Rattle.member_lists.proofs.BoundKinds.{list-tag, other-tag}
-use Rattle.rebuilding.specs.Children.{setting, Agrees, AllChildren}
-use Rattle.rebuilding.specs.Rebuilt.{Rebuilding, Rebuilds}
-use Rattle.pass.specs.Caches.{Caches}
-use Rattle.pass.specs.Applied.{Leads, Ready, Applies, ListReady, EachReady, AppliesEach}
+use Rattle.rebuilding.specs.Inner.Children.{setting, Agrees, AllChildren}
+use Rattle.rebuilding.specs.Inner.Rebuilt.{Rebuilding, Rebuilds}
+use Rattle.pass.specs.Inner.Caches.{Caches}
+use Rattle.pass.specs.Inner.Applied.{Leads, Ready, Applies, ListReady, EachReady, AppliesEach}
 use Rattle.rebuilding.specs.declared.children.Children.{Children}
-use Rattle.pass.specs.declared.apply.Run.{Run}
-use Rattle.pass.specs.declared.apply.Run.the-variants as run
+use Rattle.recursion.specs.declared.Run.{Run}
+use Rattle.recursion.specs.declared.Run.the-variants as run
 use Rattle.pass.proofs.Leading.{stop-leads, EachDone, each-done, each-stop, reply-leads}
 
 module _ {w s : List ℕ} {c : Counters} {n : ℕ} {removable dropped kept : List ℕ} (P : Ready w s c n removable dropped kept) where

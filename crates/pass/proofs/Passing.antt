@@ -12,20 +12,21 @@ use Rattle.types.specs.Memory.{Holds}
 use Rattle.types.specs.declared.Counters.{Counters}
 use Rattle.types.proofs.Tests.{true-false, same-truth}
 use Rattle.bits.specs.Bits.{has}
-use Rattle.node_store.specs.Stored.{InRange}
+use Rattle.node_store.specs.Inner.Stored.{InRange}
 use Rattle.node_store.specs.declared.added.Interned.{Interned}
-use Rattle.walks.specs.Removable.{Removable, OneSigned, OneSignedIn}
+use Rattle.walks.specs.Removable.{Removable, OneSigned}
+use Rattle.walks.specs.Inner.Sets.{OneSignedIn}
 use Rattle.walks.proofs.OneSigns.{one-signed-removable}
-use Rattle.recursion.specs.Hosted.{LeadsOnce, done, stop}
+use Rattle.recursion.specs.Inner.Hosted.{LeadsOnce, done, stop}
 use Rattle.recursion.proofs.Remembering.{zero-at}
 use Rattle.simplification.specs.Seen.{sees, one-signed}
 use Rattle.simplification.specs.Pass.{pass}
 use Rattle.simplification.proofs.Seeing.{seen-occurs, one-signed-only, only-one-signed}
-use Rattle.rebuilding.specs.Children.{Agrees}
-use Rattle.pass.specs.Caches.{entries, Caches}
-use Rattle.pass.specs.Applied.{Leads, Ready, Applies}
-use Rattle.pass.specs.Applied as applied
-use Rattle.pass.specs.Once.{SimplifiesOnce}
+use Rattle.rebuilding.specs.Inner.Children.{Agrees}
+use Rattle.pass.specs.Inner.Caches.{entries, Caches}
+use Rattle.pass.specs.Inner.Applied.{Leads, Ready, Applies}
+use Rattle.pass.specs.Inner.Applied as applied
+use Rattle.pass.specs.Inner.Once.{SimplifiesOnce}
 
 -- ---- the set has the nodes of the variables that the definition removes
 module _ (table : ℕ) (a : Arena) (h : sound table a ≡ true) (root : ℕ) (l : root < length a) (v : ℕ) where

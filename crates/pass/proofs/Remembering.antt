@@ -16,9 +16,9 @@ use Rattle.node_store.specs.declared.added.Interned.{Interned}
 use Rattle.node_store.specs.declared.added.Interned.the-variants as interned
 use Rattle.simplification.specs.Pass.{apply}
 use Rattle.simplification.proofs.Caching.{cache-law}
-use Rattle.rebuilding.specs.Children.{setting}
-use Rattle.pass.specs.Caches.{entries, Hit, Caches, CacheRoom, Remembers}
-use Rattle.pass.specs.Applied.{Leads, done, Ready, Applies}
+use Rattle.rebuilding.specs.Inner.Children.{setting}
+use Rattle.pass.specs.Inner.Caches.{entries, Hit, Caches, CacheRoom, Remembers}
+use Rattle.pass.specs.Inner.Applied.{Leads, done, Ready, Applies}
 use Rattle.pass.proofs.Leading.{leads-done}
 
 -- ---- one entry written

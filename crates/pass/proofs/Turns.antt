@@ -18,10 +18,10 @@ use Rattle.node_store.specs.declared.added.Interned.the-variants as interned
 use Rattle.recursion.specs.Jobs.{Job, each}
 use Rattle.simplification.specs.Pass.{apply}
 use Rattle.simplification.proofs.Applying.{apply-kept}
-use Rattle.rebuilding.specs.Children.{setting, Agrees}
-use Rattle.pass.specs.Caches.{Caches}
-use Rattle.pass.specs.Applied.{Leads, Ready, Applies, EachReady, LeadsEach, went, stop, AppliesEach}
-use Rattle.pass.specs.declared.apply.Run.the-variants as run
+use Rattle.rebuilding.specs.Inner.Children.{setting, Agrees}
+use Rattle.pass.specs.Inner.Caches.{Caches}
+use Rattle.pass.specs.Inner.Applied.{Leads, Ready, Applies, EachReady, LeadsEach, went, stop, AppliesEach}
+use Rattle.recursion.specs.declared.Run.the-variants as run
 use Rattle.recursion.proofs.Leading.{stands-ext}
 use Rattle.recursion.proofs.Turns.{below-snoc, after, after-none, after-more}
 use Rattle.pass.proofs.Leading.{leads-done, leads-stop}

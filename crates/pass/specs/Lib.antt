@@ -1,3 +1,1 @@
-pub mod Caches
-pub mod Applied
-pub mod Once
+pub mod Inner

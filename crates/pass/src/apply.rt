@@ -4,33 +4,28 @@ use crate::cache::cached;
 use crate::cache::remember;
 use member_lists::Closed;
 use member_lists::close_list;
-use node_reading::children::child_at;
+use node_reading::children::child_words;
 use node_reading::nodes::kind_at;
 use node_store::added::Interned;
 use node_store::stored::node_at;
 use rebuilding::children::all_children;
 use rebuilding::children::remaining;
 use rebuilding::node::rebuild;
+use recursion::Run;
+use recursion::item_at;
 use types::Counters;
 use types::arc_ty::Head;
+use types::arc_ty::child;
 use types::arc_ty::wide;
-ghost use mathlib.Core.Path.{_≡_};
-ghost use Prim.Native.Nat.{_<_};
-ghost use lib.ListN.{getD};
-ghost use Rattle.pass.specs.Applied.{Ready, Applies, ListAt, ListReady, FirstMember, EachReady, AppliesEach};
-
-// Whether several nodes were simplified, with the counters after, or the number of a refusal.
-pub enum Run {
-    Went(Counters),
-    Refused(u32),
-}
+ghost use Rattle.pass.specs.Inner.Applied.{Ready, Applies, ListAt, ListReady, FirstMember, EachReady, AppliesEach};
 
 // The first member of the list n.
 fn first_member(words: &[u32], starts: &[u32], c: Counters, n: u32) -> u32
     requires { ⌜ ListAt (now words) (now starts) c n ⌝ }
     ensures { λ r. ⌜ FirstMember (now (words .entry)) (now (starts .entry)) c n r ⌝ }
 {
-    child_at(node_at(words, starts, c, wide(n)), 0)
+    let body = child_words(node_at(words, starts, c, wide(n)));
+    child(body[0])
 }
 
 // What node n becomes, remembered.
@@ -93,10 +88,10 @@ fn apply_simplification_uncached(
         dropped,
         kept,
     );
-    match r {
-        Run::Went(d) => rebuild(words, starts, d, n, &list.items, count),
-        Run::Refused(number) => Interned::Refused(number),
-    }
+    let Run::Went(d) = r else {
+        return Interned::Refused(r.refusal());
+    };
+    rebuild(words, starts, d, n, &list.items, count)
 }
 
 // A member list: its members that remain are simplified and gathered; if nothing is left of them, the first is simplified with
@@ -131,18 +126,14 @@ fn apply_list(
         dropped,
         kept,
     );
-    match r {
-        Run::Refused(number) => Interned::Refused(number),
-        Run::Went(d) => {
-            let closed = close_list(words, starts, d, kind, &list.items, count);
-            match closed {
-                Closed::Done(done) => done,
-                Closed::Empty => {
-                    apply_simplification(words, starts, d, first, removable, true, dropped, kept)
-                }
-            }
-        }
-    }
+    let Run::Went(d) = r else {
+        return Interned::Refused(r.refusal());
+    };
+    let closed = close_list(words, starts, d, kind, &list.items, count);
+    let Closed::Done(done) = closed else {
+        return apply_simplification(words, starts, d, first, removable, true, dropped, kept);
+    };
+    done
 }
 
 // What each of the first `count` items becomes, in its place; all are below n.
@@ -168,24 +159,12 @@ fn apply_each(
     while i < count {
         let item = item_at(items, i);
         let r = apply_simplification(words, starts, last, item, removable, keep, dropped, kept);
-        match r {
-            Interned::Refused(number) => {
-                return Run::Refused(number);
-            }
-            Interned::Node(m, d) => {
-                items[i] = m;
-                last = d;
-            }
-        }
+        let Interned::Node(m, d) = r else {
+            return Run::Refused(r.refusal());
+        };
+        items[i] = m;
+        last = d;
         i += 1;
     }
     Run::Went(last)
-}
-
-// Item i: an element behind a reference to an array says nothing of its range, an answer does.
-fn item_at(items: &[u32; 65], i: usize) -> u32
-    requires { ⌜ i < 65 ⌝ }
-    ensures { λ r. ⌜ r ≡ getD (now (items .entry)) i 0 ⌝ }
-{
-    items[i]
 }

@@ -3,7 +3,7 @@ use types::arc_ty::wide;
 ghost use mathlib.Core.Path.{_≡_};
 ghost use Prim.Native.Nat.{_<_};
 ghost use lib.ListN.{getD};
-ghost use Rattle.pass.specs.Caches.{entries, CacheRoom, Remembers};
+ghost use Rattle.pass.specs.Inner.Caches.{entries, CacheRoom, Remembers};
 
 // What is known of node n under the setting.
 pub fn cached(dropped: &[u32; 4096], kept: &[u32; 4096], keep: bool, n: u32) -> u32

@@ -4,8 +4,8 @@ use node_store::added::Interned;
 use types::Counters;
 use types::arc_ty::wide;
 use walks::removable::one_signed;
-ghost use Rattle.node_store.specs.Stored.{InRange};
-ghost use Rattle.pass.specs.Once.{SimplifiesOnce};
+ghost use Rattle.node_store.specs.Inner.Stored.{InRange};
+ghost use Rattle.pass.specs.Inner.Once.{SimplifiesOnce};
 
 // What the root becomes, where the variables with places of one sign in its type are removable.
 pub fn simplify_once(words: &mut [u32], starts: &mut [u32], c: Counters, root: u32) -> Interned

@@ -2,3 +2,5 @@ pub mod VarWalks
 pub mod VarPlaces
 pub mod Sharing
 pub mod NameWalks
+pub mod Ways
+pub mod Unwrapping

@@ -15,9 +15,10 @@ use Rattle.types.specs.Memory.{Holds}
 use Rattle.types.specs.declared.Counters.{Counters}
 use Rattle.types.proofs.Tests.{not-true}
 use Rattle.types.proofs.Growth.{before, ext-tail, ext-rec, rec-at}
-use Rattle.node_store.specs.Stored.{Lent, InRange}
-use Rattle.walks.specs.Asked.{Says}
-use Rattle.node_reading.specs.Nodes.{of-kind, KindAt, ParentAt, FirstChild}
+use Rattle.node_store.specs.Inner.Stored.{Lent, InRange}
+use Rattle.walks.specs.Inner.Asked.{Says}
+use Rattle.node_reading.specs.Nodes.{of-kind}
+use Rattle.node_reading.specs.Inner.{KindAt, ParentAt, FirstChild}
 use Rattle.questions.specs.Named.{unwrap-named}
 use Rattle.node_reading.proofs.NodeReads.{first-lower, first-range}
 

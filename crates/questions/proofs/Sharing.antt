@@ -20,15 +20,19 @@ use Rattle.types.specs.declared.Counters.{Counters}
 use Rattle.types.proofs.Tests.{true-false, and-true, both, not-true, same-true, same-if}
 use Rattle.types.proofs.Sound.{at-formed, child-lower, at-find}
 use Rattle.types.proofs.Addresses.{start-room}
-use Rattle.bits.specs.Bits.{has, Row, Put}
+use Rattle.bits.specs.Bits.{has, Put}
+use Rattle.bits.specs.Inner.{Row}
 use Rattle.bits.proofs.Sets.{has-none}
-use Rattle.node_store.specs.Stored.{Lent, InRange}
-use Rattle.walks.specs.Asked.{Says}
-use Rattle.walks.specs.Reach.{reaches, ReachIn}
+use Rattle.node_store.specs.Inner.Stored.{Lent, InRange}
+use Rattle.walks.specs.Inner.Asked.{Says}
+use Rattle.walks.specs.Reach.{reaches}
+use Rattle.walks.specs.Inner.Sets.{ReachIn}
 use Rattle.walks.proofs.Reaching.{or-right}
 use Rattle.walks.proofs.Marks.{root-small}
-use Rattle.node_reading.specs.Nodes.{of-kind, is-var, KindAt, ParentAt, FirstChild}
-use Rattle.questions.specs.Lambdas.{param-of, takes-var, same-var, some-below, shared-in, has-shared-tyvar-across-lambda-params, param-out, taken, passes, ParamAt, ParamRow, Seeing, Shares}
+use Rattle.node_reading.specs.Nodes.{of-kind, is-var}
+use Rattle.node_reading.specs.Inner.{KindAt, ParentAt, FirstChild}
+use Rattle.questions.specs.Lambdas.{param-of, takes-var, same-var, some-below, shared-in, has-shared-tyvar-across-lambda-params}
+use Rattle.questions.specs.Inner.Lambdas.{param-out, taken, passes, ParamAt, ParamRow, Seeing, Shares}
 use Rattle.questions.specs.declared.lambdas.Param.{Param}
 use Rattle.questions.specs.declared.lambdas.Param.the-variants as param
 use Rattle.node_reading.proofs.NodeReads.{first-there, first-range}

@@ -9,19 +9,14 @@ use lib.Seq.{getD-drop}
 use Rattle.types.specs.Kind.{disc}
 use Rattle.types.specs.Node.{Polarity, Tag, tag, kind, children}
 use Rattle.types.specs.Arena.{Arena, at, sound}
-use Rattle.types.specs.Places.{child-sign, Place, self, down}
+use Rattle.types.specs.Places.{child-sign, self, down}
 use Rattle.types.proofs.Sound.{child-lower, fold-at}
 use Rattle.walks.specs.Reach.{some-of}
 use Rattle.walks.proofs.Reaching.{some-in, in-some, or-right}
 use Rattle.node_reading.specs.Nodes.{is-var}
 use Rattle.questions.specs.Vars as vars
-use Rattle.questions.specs.Vars.{passed-over, kind-has, has-var, Walk}
-
--- a variable that such a path leads to
-pub record Var (skip : Bool) (a : Arena) (n : ℕ) : Type 0 where
-  pub node : ℕ
-  pub path : Walk skip a n node
-  pub var : is-var (at a node) ≡ true
+use Rattle.questions.specs.Vars.{passed-over, kind-has, has-var}
+use Rattle.questions.specs.Theorems.{Var, VarWalk, WalkVar, WalkPlace, PlaceWalk}
 
 drop-map : (f : ℕ → Bool) (k : ℕ) (cs : List ℕ) → drop k (map f cs) ≡ map f (drop k cs)
 drop-map f zero cs = refl
@@ -53,24 +48,26 @@ module _ (skip : Bool) (table : ℕ) (a : Arena) (h : sound table a ≡ true) wh
           let V′ = f (getD (children (at a n)) j 0) (omega (arith, low, k)) (omega (arith, low, l)) (ap (has-var skip a) (sym e) ∙ S .passes) in
           record { node = V′ .node; path = vars.down {n = n} j (omega arith) i (V′ .path); var = V′ .var }
 
-  pub var-walk : (n : ℕ) → n < length a → has-var skip a n ≡ true → Var skip a n
-  var-walk n l e = found (suc n) n (omega arith) l e
+pub var-walk : VarWalk
+var-walk skip table a h n l e = found skip table a h (suc n) n (omega arith) l e
 
-  pub walk-var : {n u : ℕ} → Walk skip a n u → n < length a → is-var (at a u) ≡ true → has-var skip a n ≡ true
-  unfolding over
-  walk-var {n} vars.self l e = at-node n l ∙ rw e
-  walk-var (vars.down {n = n} i p k r) l e =
-      let c = child-lower table a h n l i k in
-      let z : over n + (i - over n) ≡ i = omega (arith, p) in
-      let g : getD (drop (over n) (children (at a n))) (i - over n) 0 ≡ getD (children (at a n)) i 0 = getD-drop (over n) (children (at a n)) (i - over n) 0 ∙ ap (λ (j : ℕ). getD (children (at a n)) j 0) z in
-      at-node n l
-      ∙ or-right (is-var (at a n)) _ (in-some (has-var skip a) (drop (over n) (children (at a n))) (i - over n) (omega (arith, p, k, length-drop (over n) (children (at a n)))) (ap (has-var skip a) g ∙ walk-var r (omega (arith, c, l)) e))
+pub walk-var : (skip : Bool) (table : ℕ) (a : Arena) {n u : ℕ} → WalkVar skip table a n u
+unfolding over
+walk-var skip table a {n} h vars.self l e = at-node skip table a h n l ∙ rw e
+walk-var skip table a h (vars.down {n = n} i p k r) l e =
+    let o = over skip table a h n in
+    let c = child-lower table a h n l i k in
+    let z : o + (i - o) ≡ i = omega (arith, p) in
+    let g : getD (drop o (children (at a n))) (i - o) 0 ≡ getD (children (at a n)) i 0 = getD-drop o (children (at a n)) (i - o) 0 ∙ ap (λ (j : ℕ). getD (children (at a n)) j 0) z in
+    at-node skip table a h n l
+    ∙ or-right (is-var (at a n)) _
+    (in-some (has-var skip a) (drop o (children (at a n))) (i - o) (omega (arith, p, k, length-drop o (children (at a n)))) (ap (has-var skip a) g ∙ walk-var skip table a h r (omega (arith, c, l)) e))
 
 -- where nothing is passed over such a path leads exactly to the nodes with a place
-pub walk-place : {a : Arena} {n u : ℕ} → Walk false a n u → (s : Polarity) → (p : Polarity) × Place a n s u p
+pub walk-place : {a : Arena} {n u : ℕ} → WalkPlace a n u
 walk-place vars.self s = (s, self)
 walk-place {a} (vars.down {n = n} i q k r) s = let P = walk-place r (child-sign (tag (at a n)) i s) in (P .0, down i k (P .1))
 
-pub place-walk : {a : Arena} {n u : ℕ} {s p : Polarity} → Place a n s u p → Walk false a n u
+pub place-walk : {a : Arena} {n u : ℕ} {s p : Polarity} → PlaceWalk a n u s p
 place-walk self = vars.self
 place-walk (down {n = n} i k r) = vars.down {n = n} i (omega arith) k (place-walk r)

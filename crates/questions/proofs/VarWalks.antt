@@ -11,7 +11,7 @@ use lib.Dec.{eqb}
 use borrow.Author.Tests.{eq-eqb, ne-eqb}
 use mir.Syntax.{w64}
 use mir.Val.{Fits}
-use Rattle.words.specs.Words.{head-kind}
+use Rattle.words.specs.Words.{head-kind, child}
 use Rattle.types.specs.Node.{Tag, tag, kind, children}
 use Rattle.types.specs.Kind.{disc}
 use Rattle.types.specs.Arena.{Arena, at}
@@ -20,20 +20,21 @@ use Rattle.types.specs.Memory.{Holds}
 use Rattle.types.specs.declared.Counters.{Counters}
 use Rattle.types.proofs.Faults.{children-encode}
 use Rattle.types.proofs.Sound.{at-formed, children-below, map-below, fold-at}
-use Rattle.bits.specs.Bits.{has, Row, Put}
+use Rattle.bits.specs.Bits.{has, Put}
+use Rattle.bits.specs.Inner.{Row}
 use Rattle.bits.proofs.Sets.{has-none}
-use Rattle.node_store.specs.Stored.{InRange, NodeAt}
-use Rattle.walks.specs.Asked.{Says}
+use Rattle.node_store.specs.Inner.Stored.{InRange, NodeAt}
+use Rattle.walks.specs.Inner.Asked.{Says}
 use Rattle.walks.specs.Reach.{some-of}
-use Rattle.node_reading.proofs.Offspring.{child-small}
+use Rattle.node_reading.specs.Nodes.{ChildWords}
 use Rattle.walks.proofs.Marks.{root-small}
-use Rattle.questions.specs.Vars.{kind-has, has-var, words-have, Learned}
+use Rattle.questions.specs.Vars.{kind-has, has-var}
+use Rattle.questions.specs.Inner.Vars.{words-have, Learned}
 use Rattle.node_reading.proofs.NodeReads.{kind-encode}
 
 -- ---- one child after another: the children still to come decide
-pub record Looking (ws met : List ℕ) (from count i : ℕ) : Type 0 where
-  pub counted : count ≡ length (children-in ws)
-  pub same : some-of (drop from (map (has met) (children-in ws))) ≡ some-of (drop i (map (has met) (children-in ws)))
+pub record Looking (b met : List ℕ) (from i : ℕ) : Type 0 where
+  pub same : some-of (drop from (map (has met) (map child b))) ≡ some-of (drop i (map (has met) (map child b)))
 
 -- the next of several tests, and those after it
 next-of : (f : ℕ → Bool) (cs : List ℕ) (i : ℕ) → i < length cs → some-of (drop i (map f cs)) ≡ (f (getD cs i 0) || some-of (drop (i + 1) (map f cs)))
@@ -43,29 +44,31 @@ next-of f cs i l =
     let e : suc i ≡ i + 1 = omega arith in
     ap some-of (drop-cons (map f cs) i (f 0) k) ∙ (λ j. List·getD-map f cs i 0 j || some-of (drop (e j) (map f cs)))
 
-module _ {ws met : List ℕ} {from count : ℕ} where
-  pub looking-start : count ≡ length (children-in ws) → Looking ws met from count from
-  looking-start e = record { counted = e; same = refl }
+module _ {b met : List ℕ} {from : ℕ} where
+  pub looking-start : Looking b met from from
+  looking-start = record { same = refl }
 
-  module _ {i : ℕ} (L : Looking ws met from count i) where
-    pub looking-in : i < count → i < length (children-in ws)
-    looking-in h = omega (arith, L .counted)
+  module _ {i : ℕ} (L : Looking b met from i) where
+    split : {m : ℕ} {t : Bool} → i < length b → m ≡ child (getD b i 0) → t ≡ has met m → some-of (drop from (map (has met) (map child b))) ≡ (t || some-of (drop (i + 1) (map (has met) (map child b))))
+    unfolding child
+    split h e q =
+        let k : i < length (map child b) = omega (arith, length-map b child) in
+        let f = e ∙ sym (List·getD-map child b i 0) in
+        L .same ∙ next-of (has met) (map child b) i k ∙ ap (λ (x : Bool). x || some-of (drop (i + 1) (map (has met) (map child b)))) (sym (q ∙ ap (has met) f))
 
-    pub looking-small : {m : ℕ} → i < count → m ≡ getD (children-in ws) i 0 → m < 4096
-    looking-small h e = omega (arith, e, child-small ws i (looking-in h))
+    pub looking-small : {m : ℕ} → m ≡ child (getD b i 0) → m < 4096
+    unfolding child
+    looking-small e = omega (arith, e)
 
-    split : {m : ℕ} {b : Bool} → i < count → m ≡ getD (children-in ws) i 0 → b ≡ has met m → some-of (drop from (map (has met) (children-in ws))) ≡ (b || some-of (drop (i + 1) (map (has met) (children-in ws))))
-    split h e q = L .same ∙ next-of (has met) (children-in ws) i (looking-in h) ∙ ap (λ (x : Bool). x || some-of (drop (i + 1) (map (has met) (children-in ws)))) (sym (q ∙ ap (has met) e))
-
-    pub looking-found : {m : ℕ} {b : Bool} → i < count → m ≡ getD (children-in ws) i 0 → b ≡ has met m → b ≡ true → true ≡ some-of (drop from (map (has met) (children-in ws)))
+    pub looking-found : {m : ℕ} {t : Bool} → i < length b → m ≡ child (getD b i 0) → t ≡ has met m → t ≡ true → true ≡ some-of (drop from (map (has met) (map child b)))
     looking-found h e q p = sym (split h e q ∙ rw p)
 
-    pub looking-more : {m : ℕ} {b : Bool} → i < count → m ≡ getD (children-in ws) i 0 → b ≡ has met m → b ≡ false → Looking ws met from count (i + 1)
-    looking-more h e q p = record { counted = L .counted; same = split h e q ∙ rw p }
+    pub looking-more : {m : ℕ} {t : Bool} → i < length b → m ≡ child (getD b i 0) → t ≡ has met m → t ≡ false → Looking b met from (i + 1)
+    looking-more h e q p = record { same = split h e q ∙ rw p }
 
-    pub looking-done : count ≤ i → false ≡ some-of (drop from (map (has met) (children-in ws)))
+    pub looking-done : length b ≤ i → false ≡ some-of (drop from (map (has met) (map child b)))
     unfolding some-of
-    looking-done h = sym (L .same ∙ ap some-of (drop-of-length-le (map (has met) (children-in ws)) {i = i} (omega (arith, h, L .counted, length-map (children-in ws) (has met)))))
+    looking-done h = sym (L .same ∙ ap some-of (drop-of-length-le (map (has met) (map child b)) {i = i} (omega (arith, h, length-map (map child b) (has met), length-map b child))))
 
 -- ---- the words of one node
 module _ (ws met : List ℕ) (skip : Bool) {k : ℕ} (e : k ≡ head-kind (getD ws 0 0)) where
@@ -76,11 +79,12 @@ module _ (ws met : List ℕ) (skip : Bool) {k : ℕ} (e : k ≡ head-kind (getD 
   pub is-variable : k ≡ 3 → true ≡ words-have skip (has met) ws
   is-variable q = sym (rw (eq-eqb k 3 q) at (sym at-kind))
 
-  pub child-decides : {b : Bool} → (k ≡ 3 → ⊥) → (skip && eqb k 5) ≡ false → b ≡ some-of (drop 0 (map (has met) (children-in ws))) → b ≡ words-have skip (has met) ws
-  child-decides f p q = q ∙ sym (rw (ne-eqb k 3 f, p) at (sym at-kind))
+  module _ {b : List ℕ} (B : ChildWords ws b) {t : Bool} (f : k ≡ 3 → ⊥) where
+    pub child-decides : (skip && eqb k 5) ≡ false → t ≡ some-of (drop 0 (map (has met) (map child b))) → t ≡ words-have skip (has met) ws
+    child-decides p q = q ∙ ap (λ (cs : List ℕ). some-of (drop 0 (map (has met) cs))) (B .is) ∙ sym (rw (ne-eqb k 3 f, p) at (sym at-kind))
 
-  pub body-decides : {b : Bool} → (k ≡ 3 → ⊥) → (skip && eqb k 5) ≡ true → b ≡ some-of (drop 1 (map (has met) (children-in ws))) → b ≡ words-have skip (has met) ws
-  body-decides f p q = q ∙ sym (rw (ne-eqb k 3 f, p) at (sym at-kind))
+    pub body-decides : (skip && eqb k 5) ≡ true → t ≡ some-of (drop 1 (map (has met) (map child b))) → t ≡ words-have skip (has met) ws
+    body-decides p q = q ∙ ap (λ (cs : List ℕ). some-of (drop 1 (map (has met) cs))) (B .is) ∙ sym (rw (ne-eqb k 3 f, p) at (sym at-kind))
 
 -- where the test is right for each child it is right for the node
 at-node : (skip : Bool) (f : ℕ → Bool) (table : ℕ) {w s : List ℕ} {c : Counters} (a : Arena) → Holds table w s c a → (n : ℕ) → n < c .nodes → {ws : List ℕ} → NodeAt w s c n ws → ((m : ℕ) → m < n → f m ≡ has-var skip a m)

@@ -1,3 +1,5 @@
 pub mod Vars
 pub mod Lambdas
 pub mod Named
+pub mod Theorems
+pub mod Inner

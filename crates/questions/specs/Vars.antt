@@ -1,18 +1,15 @@
 -- Has the type of a root a variable, anywhere or outside lambdas' params? (01, "arena")
 use Prim.Native.Nat.{ℕ, _<_, _≤_}
-use mathlib.Core.Path.{_≡_}
 use mathlib.Core.Bool.{Bool, true, false, _&&_, _||_}
-use mathlib.Core.List.{List, map}
+use mathlib.Core.List.{List}
 use lib.ListN.{length, getD, drop}
 use lib.Dec.{eqb}
-use Rattle.words.specs.Words.{bit, head-kind}
+use Rattle.words.specs.Words.{bit}
 use Rattle.types.specs.Out.{Out, ok, refuse}
 use Rattle.types.specs.Kind as kinds
 use Rattle.types.specs.Kind.{disc}
 use Rattle.types.specs.Node.{Tag, tag, kind, children}
 use Rattle.types.specs.Arena.{Arena, at, fold}
-use Rattle.types.specs.Fault.{children-in}
-use Rattle.bits.specs.Bits.{has}
 use Rattle.walks.specs.Reach.{some-of}
 use Rattle.questions.specs.declared.vars.Asked.{Asked}
 use Rattle.questions.specs.declared.vars.Asked.the-variants as asked
@@ -43,17 +40,6 @@ pub data Walk (skip : Bool) (a : Arena) : ℕ → ℕ → Type 0 where
   self : {n : ℕ} → Walk skip a n n
   down : {n u : ℕ} (i : ℕ) → passed-over skip (disc (kind (tag (at a n)))) ≤ i → i < length (children (at a n))
       → Walk skip a (getD (children (at a n)) i 0) u → Walk skip a n u
-
--- the same of a node's words, where f says which children have one
-unfoldable pub words-have : Bool → (ℕ → Bool) → List ℕ → Bool
-unfolding some-of head-kind children-in
-words-have skip f ws = kind-has skip (head-kind (getD ws 0 0)) (map f (children-in ws))
-
--- t is the set s, and n is in it if b says so
-pub record Learned (b : Bool) (n : ℕ) (s t : List ℕ) : Type 0 where
-  pub long : length t ≡ length s
-  pub new : has t n ≡ (b || has s n)
-  pub old : (m : ℕ) → (m ≡ n → ⊥) → has t m ≡ has s m
 
 -- the enum's cases: whether it is so; the number of a refusal
 abbrev pub asked-out : Asked → Out Bool

@@ -14,10 +14,12 @@ use walks::reach::reachable;
 ghost use mathlib.Core.Path.{_≡_};
 ghost use mathlib.Core.Bool.{true};
 ghost use Rattle.bits.specs.Bits.{has};
-ghost use Rattle.node_store.specs.Stored.{Lent, InRange};
-ghost use Rattle.walks.specs.Asked.{ask-reply, Answers};
+ghost use Rattle.node_store.specs.Inner.Stored.{Lent, InRange};
+ghost use Rattle.walks.specs.Asked.{ask-reply};
+ghost use Rattle.walks.specs.Inner.Asked.{Answers};
 ghost use Rattle.questions.specs.Vars.{asked-out};
-ghost use Rattle.questions.specs.Lambdas.{has-shared-tyvar-across-lambda-params, param-out, ParamAt, ParamRow, Seeing, Shares};
+ghost use Rattle.questions.specs.Lambdas.{has-shared-tyvar-across-lambda-params};
+ghost use Rattle.questions.specs.Inner.Lambdas.{param-out, ParamAt, ParamRow, Seeing, Shares};
 
 // The node of the variable that a lambda takes.
 pub enum Param {

@@ -7,8 +7,9 @@ use types::Counters;
 use types::arc_ty::Head;
 use types::arc_ty::wide;
 ghost use mathlib.Core.Path.{_≡_};
-ghost use Rattle.node_store.specs.Stored.{Lent, InRange};
-ghost use Rattle.walks.specs.Asked.{ask-reply, Says, Answers};
+ghost use Rattle.node_store.specs.Inner.Stored.{Lent, InRange};
+ghost use Rattle.walks.specs.Asked.{ask-reply};
+ghost use Rattle.walks.specs.Inner.Asked.{Says, Answers};
 ghost use Rattle.questions.specs.Named.{unwrap-named, unwrapped-out};
 
 // The first node on the way down from the root that is no named type.

@@ -2,33 +2,35 @@
 // before it comes to the node.
 use bits::put;
 use bits::test;
-use node_reading::children::child_at;
-use node_reading::children::child_count;
+use node_reading::children::child_words;
 use node_reading::nodes::kind_in;
 use node_store::stored::node_at;
 use soundness::Judged;
 use soundness::judge;
 use types::Counters;
 use types::arc_ty::Head;
+use types::arc_ty::child;
 use types::arc_ty::wide;
 ghost use mathlib.Core.Path.{_≡_};
 ghost use mathlib.Core.List.{map};
 ghost use lib.ListN.{drop};
-ghost use Rattle.types.specs.Fault.{children-in};
-ghost use Rattle.bits.specs.Bits.{has, Row};
-ghost use Rattle.node_store.specs.Stored.{Lent, InRange};
-ghost use Rattle.walks.specs.Asked.{ask-reply, Says, Answers};
+ghost use Rattle.words.specs.Words.{child};
+ghost use Rattle.bits.specs.Bits.{has};
+ghost use Rattle.bits.specs.Inner.{Row};
+ghost use Rattle.node_store.specs.Inner.Stored.{Lent, InRange};
+ghost use Rattle.walks.specs.Asked.{ask-reply};
+ghost use Rattle.walks.specs.Inner.Asked.{Says, Answers};
 ghost use Rattle.walks.specs.Reach.{some-of};
-ghost use Rattle.questions.specs.Vars.{has-var, has-type-vars, contains-bare-tyvar, words-have, Learned, asked-out};
+ghost use Rattle.questions.specs.Vars.{has-var, has-type-vars, contains-bare-tyvar, asked-out};
+ghost use Rattle.questions.specs.Inner.Vars.{words-have, Learned};
 
-// Whether one of the children in the words of a node, from one on, is in the set.
-fn some_child(node: &[u32], from: usize, met: &[u64; 64]) -> bool
-    ensures { λ r. ⌜ r ≡ some-of (drop from (map (has (now (met .entry))) (children-in (now (node .entry))))) ⌝ }
+// Whether one of the children in the body of a node, from one on, is in the set.
+fn some_child(body: &[u32], from: usize, met: &[u64; 64]) -> bool
+    ensures { λ r. ⌜ r ≡ some-of (drop from (map (has (now (met .entry))) (map child (now (body .entry))))) ⌝ }
 {
-    let count = child_count(node);
     let mut i = from;
-    while i < count {
-        if test(met, child_at(node, i)) {
+    while i < body.len() {
+        if test(met, child(body[i])) {
             return true;
         }
         i += 1;
@@ -44,10 +46,11 @@ fn words_have(node: &[u32], skip: bool, met: &[u64; 64]) -> bool
     if kind == Head::TY_VAR {
         return true;
     }
+    let body = child_words(node);
     if skip & (kind == Head::LAMBDA) {
-        return some_child(node, 1, met);
+        return some_child(body, 1, met);
     }
-    some_child(node, 0, met)
+    some_child(body, 0, met)
 }
 
 // Puts the node n with these words into the set, if it has a variable.

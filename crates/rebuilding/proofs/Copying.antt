@@ -2,11 +2,12 @@
 use Prim.Native.Nat.{ℕ, _+_, _<_, _≤_}
 use mathlib.Core.Path.{_≡_, refl, sym, ap, _∙_}
 use mathlib.Core.Bool.{Bool, true, false}
-use mathlib.Core.List.{List, [], _∷_, _++_, append-nil}
+use mathlib.Core.List.{List, [], _∷_, _++_, map, append-nil}
 use native.Mathlib.Omega.{arith}
 use native.Mathlib.Numerals.{add-one}
-use lib.ListN.{length, getD, take, set, replicate, length-append, length-set, length-replicate}
+use lib.ListN.{length, getD, take, set, replicate, length-append, length-set, length-replicate, length-map, List·getD-map}
 use lib.Seq.{take-suc, take-all, take-suc-set}
+use Rattle.words.specs.Words.{child}
 use Rattle.types.specs.Node.{Node, node, children, kind, data-of, child-words, formed}
 use Rattle.types.specs.Arena.{Arena, at}
 use Rattle.types.specs.Fault.{children-in}
@@ -16,9 +17,11 @@ use Rattle.types.proofs.Nodes.{formed-parts, few-words, length-child-words}
 use Rattle.types.proofs.Faults.{children-encode}
 use Rattle.types.proofs.Sound.{at-formed, child-lower}
 use Rattle.bits.proofs.Sets.{has-none}
-use Rattle.node_store.specs.Stored.{InRange, NodeAt}
+use Rattle.node_store.specs.Inner.Stored.{InRange, NodeAt}
+use Rattle.node_reading.specs.Nodes.{ChildWords}
+use Rattle.node_reading.proofs.Offspring.{as-many}
 use Rattle.simplification.specs.Pass.{no-variable, is-removable, remaining}
-use Rattle.rebuilding.specs.Children.{setting, Agrees, Drops, Space, unless, Adds, AllChildren, Remains}
+use Rattle.rebuilding.specs.Inner.Children.{setting, Agrees, Drops, Space, unless, Adds, AllChildren, Remains}
 use Rattle.rebuilding.specs.declared.children.Children.{Children}
 use Rattle.rebuilding.proofs.Dropping.{none-removable}
 
@@ -73,40 +76,38 @@ module _ {items : List ℕ} {count m : ℕ} {dropped : Bool} where
   }
 
 -- ---- i children passed
-pub record Copied (w s : List ℕ) (c : Counters) (n : ℕ) (removable : List ℕ) (keep : Bool) (ws : List ℕ) (all : ℕ) (items : List ℕ) (count i : ℕ) : Type 0 where
+pub record Copied (w s : List ℕ) (c : Counters) (n : ℕ) (removable : List ℕ) (keep : Bool) (b items : List ℕ) (count i : ℕ) : Type 0 where
   pub range : InRange w s c n
-  pub node : NodeAt w s c n ws
-  pub counted : all ≡ length (children-in ws)
-  pub turn : i ≤ all
+  pub read : (table : ℕ) (a : Arena) → Holds table w s c a → map child b ≡ children (at a n)
+  pub few-words : length b ≤ 65
+  pub turn : i ≤ length b
   pub few : count ≤ i
   pub long : length items ≡ 65
   pub is : (table : ℕ) (a : Arena) (R : ℕ → Bool) → Holds table w s c a → Agrees removable R a n → take count items ≡ remaining (setting keep R) a (take i (children (at a n)))
 
-module _ {w s : List ℕ} {c : Counters} {n : ℕ} {removable : List ℕ} {keep : Bool} {ws : List ℕ} {all : ℕ} where
-  pub copied-start : {j : ℕ} → InRange w s c n → j ≡ n → NodeAt w s c j ws → all ≡ length (children-in ws) → Copied w s c n removable keep ws all (replicate 65 0) 0 0
+module _ {w s : List ℕ} {c : Counters} {n : ℕ} {removable : List ℕ} {keep : Bool} {b : List ℕ} where
+  pub copied-start : {j : ℕ} {ws : List ℕ} → InRange w s c n → j ≡ n → NodeAt w s c j ws → ChildWords ws b → Copied w s c n removable keep b (replicate 65 0) 0 0
   unfolding remaining
-  copied-start I e N q = record {
+  copied-start I e N B = record {
     range = I;
-    node = rw e at N;
-    counted = q;
+    read = λ table a H. B .is ∙ children-read I (rw e at N) H;
+    few-words = omega (arith, as-many B, few-read I (rw e at N));
     turn = omega arith;
     few = omega arith;
     long = length-replicate {A = ℕ} 65 0;
     is = λ table a R H A. refl;
   }
 
-  module _ {items : List ℕ} {count i : ℕ} (C : Copied w s c n removable keep ws all items count i) where
-    pub copied-in : i < all → i < length (children-in ws)
-    copied-in l = omega (arith, l, C .counted)
-
+  module _ {items : List ℕ} {count i : ℕ} (C : Copied w s c n removable keep b items count i) where
     -- the next child
-    module _ (l : i < all) {m : ℕ} (e : m ≡ getD (children-in ws) i 0) where
+    module _ (l : i < length b) {m : ℕ} (e : m ≡ child (getD b i 0)) where
       module _ {table : ℕ} {a : Arena} (H : Holds table w s c a) where
         next-in : i < length (children (at a n))
-        next-in = omega (arith, l, C .counted, ap length (children-read (C .range) (C .node) H))
+        next-in = omega (arith, l, length-map b child, ap length (C .read table a H))
 
         next-is : m ≡ getD (children (at a n)) i 0
-        next-is = e ∙ ap (λ (cs : List ℕ). getD cs i 0) (children-read (C .range) (C .node) H)
+        unfolding child
+        next-is = e ∙ sym (List·getD-map child b i 0) ∙ ap (λ (cs : List ℕ). getD cs i 0) (C .read table a H)
 
         next-lower : m < n
         next-lower = let z = child-lower table a (H .good) n (omega (arith, C .range .inside, H .nodes)) i next-in in omega (arith, z, next-is)
@@ -114,31 +115,31 @@ module _ {w s : List ℕ} {c : Counters} {n : ℕ} {removable : List ℕ} {keep 
       pub copied-here : InRange w s c m
       copied-here = let z = next-lower (C .range .lent .holds) in record { lent = C .range .lent; inside = omega (arith, z, C .range .inside) }
 
-      pub copied-more : {d : Bool} {items′ : List ℕ} {r : ℕ} → Drops w s c m removable keep d → Adds d m items count items′ r → Copied w s c n removable keep ws all items′ r (i + 1)
+      pub copied-more : {d : Bool} {items′ : List ℕ} {r : ℕ} → Drops w s c m removable keep d → Adds d m items count items′ r → Copied w s c n removable keep b items′ r (i + 1)
       copied-more {d} D A = record {
         range = C .range;
-        node = C .node;
-        counted = C .counted;
+        read = C .read;
+        few-words = C .few-words;
         turn = omega arith;
         few = omega (arith, A .few, C .few);
         long = A .long;
         is = λ table a R H G.
             let cs = children (at a n) in
             let T = setting keep R in
-            let b : d ≡ is-removable T a m = D .is table a R n H G (next-lower H) in
+            let g : d ≡ is-removable T a m = D .is table a R n H G (next-lower H) in
             let p : take i cs ++ (m ∷ []) ≡ take (i + 1) cs = ap (λ (x : ℕ). take i cs ++ (x ∷ [])) (next-is H) ∙ sym (ap (λ (x : ℕ). take x cs) (add-one i) ∙ take-suc cs i 0 (next-in H)) in
-            A .is ∙ (λ k. C .is table a R H G k ++ unless (b k) m) ∙ sym (remaining-snoc T a (take i cs) m) ∙ ap (remaining T a) p;
+            A .is ∙ (λ k. C .is table a R H G k ++ unless (g k) m) ∙ sym (remaining-snoc T a (take i cs) m) ∙ ap (remaining T a) p;
       }
 
-    pub copied-space : i < all → Space items count
-    copied-space l = record { long = C .long; few = omega (arith, l, C .few, C .counted, few-read (C .range) (C .node)) }
+    pub copied-space : i < length b → Space items count
+    copied-space l = record { long = C .long; few = omega (arith, l, C .few, C .few-words) }
 
-    pub copied-done : all ≤ i → Remains w s c n removable keep (record { items = items; count = count })
+    pub copied-done : length b ≤ i → Remains w s c n removable keep (record { items = items; count = count })
     copied-done l = record {
       is = λ table a R H G. record {
-        is = C .is table a R H G ∙ ap (remaining (setting keep R) a) (take-all i (children (at a n)) (omega (arith, l, C .counted, ap length (children-read (C .range) (C .node) H))));
+        is = C .is table a R H G ∙ ap (remaining (setting keep R) a) (take-all i (children (at a n)) (omega (arith, l, length-map b child, ap length (C .read table a H))));
         long = C .long;
-        few = omega (arith, C .few, C .turn, C .counted, few-read (C .range) (C .node));
+        few = omega (arith, C .few, C .turn, C .few-words);
       };
     }
 

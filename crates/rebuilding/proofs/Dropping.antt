@@ -12,12 +12,12 @@ use Rattle.types.specs.Node.{positive, negative, primitive, list, lambda, attrs
 use Rattle.types.specs.Arena.{Arena, at}
 use Rattle.types.specs.declared.Counters.{Counters}
 use Rattle.bits.specs.Bits.{has}
-use Rattle.node_store.specs.Stored.{InRange}
-use Rattle.node_reading.specs.Nodes.{KindAt, ParentAt, FirstChild}
+use Rattle.node_store.specs.Inner.Stored.{InRange}
+use Rattle.node_reading.specs.Inner.{KindAt, ParentAt, FirstChild}
 use Rattle.node_reading.proofs.NodeReads.{first-lower, first-range}
 use Rattle.simplification.specs.Seen.{same-tag}
 use Rattle.simplification.specs.Pass.{no-variable, var-of, is-removable}
-use Rattle.rebuilding.specs.Children.{RemovesVar, Removes, Drops}
+use Rattle.rebuilding.specs.Inner.Children.{RemovesVar, Removes, Drops}
 
 -- ---- kinds
 by-var : (R : ℕ → Bool) (t : Tag) (b : Bool) → ((v : ℕ) → t ≡ var v → b ≡ R v) → (eqb (disc (kind t)) 3 && b) ≡ var-of R t

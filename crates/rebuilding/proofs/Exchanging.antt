@@ -1,53 +1,64 @@
 -- A node's words with other children: field words and child words alike have the child in their lowest bits, so that one exchange serves both.
-use Prim.Native.Nat.{ℕ, zero, suc, _+_, _^_, _<_, _≤_}
+use Prim.Native.Nat.{ℕ, zero, suc, _+_, _-_, _^_, _<_, _≤_}
 use mathlib.Core.Path.{_≡_, refl, sym, ap, ap₂, _∙_}
 use mathlib.Core.Bool.{Bool, true, false}
-use mathlib.Core.List.{List, [], _∷_, _++_}
+use mathlib.Core.List.{List, [], _∷_, _++_, map}
 use native.Mathlib.Omega.{arith}
 use native.Mathlib.Numerals.{add-one}
 use native.Mathlib.Decide.{ℕ-discrete}
-use lib.ListN.{length, getD, take, set, length-set}
-use lib.Seq.{getD-take, length-take-le, ext-getD, getD-set-same, getD-set-other}
+use lib.ListN.{length, getD, take, drop, set, length-set, length-map, length-drop, List·getD-map}
+use lib.Seq.{getD-take, getD-drop, length-take-le, ext-getD, getD-set-same, getD-set-other}
 use borrow.Author.Tests.{eqb-true}
-use Rattle.words.specs.Words.{head-word, field-word}
-use Rattle.words.proofs.Words.{field-child-made}
+use Rattle.words.specs.Words.{head-word, field-word, child}
+use Rattle.words.proofs.Words.{field-made}
 use Rattle.types.specs.Same.{same-numbers}
 use Rattle.types.specs.Kind.{disc, body-count}
 use Rattle.types.specs.Node.{positive, negative, Field, field, primitive, list, lambda, attrset, named, Tag, members, bound, var, neg, form, node, kind, data-of, field-names, child-words, body, head-of, encode, below}
-use Rattle.types.specs.Fault.{children-in}
 use Rattle.types.proofs.Lists.{below-at, below-cons}
 use Rattle.types.proofs.Nodes.{length-child-words, Formed}
 use Rattle.node_reading.proofs.Offspring.{child-inside}
+use Rattle.node_order.proofs.Splits.{body-lent}
 use Rattle.node_store.proofs.Loops.{Agree, agree-start, agree-more, agree-fails, agree-done}
-use Rattle.rebuilding.specs.Rebuilt.{with-child, AsMany, Exchanging, Exchanged}
+use Rattle.rebuilding.specs.Inner.Rebuilt.{with-child, AsMany, OneEach, Exchanging, Exchanged}
 
 -- ---- the children as they were
-module _ {ws items : List ℕ} {count : ℕ} (G : AsMany ws items count) where
-  pub length-given : length (take count items) ≡ count
-  length-given = length-take-le count items (omega (arith, G .long, G .few))
+pub length-given : {ws items : List ℕ} {count : ℕ} → AsMany ws items count → length (take count items) ≡ count
+length-given {items = items} {count} G = length-take-le count items (omega (arith, G .long, G .few))
 
-  pub same-start : Agree (children-in ws) (take count items) 0
-  same-start = agree-start (omega (arith, G .count-is, length-given))
+module _ {b items : List ℕ} {count : ℕ} (G : OneEach b items count) where
+  many : length (map child b) ≡ count
+  many = length-map b child ∙ sym (G .count-is)
+
+  pub same-start : Agree (map child b) (take count items) 0
+  same-start = agree-start (many ∙ sym (length-take-le count items (omega (arith, G .long, G .few))))
 
   module _ {i : ℕ} (l : i < count) where
-    pub same-in : i < length (children-in ws)
+    pub same-in : i < length b
     same-in = omega (arith, l, G .count-is)
 
     pub same-item : i < 65
     same-item = omega (arith, l, G .few)
 
-    module _ {m : ℕ} (e : m ≡ getD (children-in ws) i 0) (A : Agree (children-in ws) (take count items) i) where
-      pub same-more : m ≡ getD items i 0 → Agree (children-in ws) (take count items) (i + 1)
-      same-more q = agree-more A same-in (sym e ∙ q ∙ sym (getD-take count items i 0 l))
+    module _ {m : ℕ} (e : m ≡ child (getD b i 0)) (A : Agree (map child b) (take count items) i) where
+      in-children : i < length (map child b)
+      in-children = omega (arith, l, many)
 
-      pub same-fails : (m ≡ getD items i 0 → ⊥) → false ≡ same-numbers (children-in ws) (take count items)
-      same-fails f = agree-fails A same-in (λ q. f (e ∙ q ∙ getD-take count items i 0 l))
+      is-child : m ≡ getD (map child b) i 0
+      unfolding child
+      is-child = e ∙ sym (List·getD-map child b i 0)
 
-  pub same-done : {i : ℕ} → Agree (children-in ws) (take count items) i → count ≤ i → true ≡ same-numbers (children-in ws) (take count items)
-  same-done A l = agree-done A (omega (arith, l, G .count-is))
+      pub same-more : m ≡ getD items i 0 → Agree (map child b) (take count items) (i + 1)
+      same-more q = agree-more A in-children (sym is-child ∙ q ∙ sym (getD-take count items i 0 l))
 
--- ---- i children exchanged
-pub record Exchanges (ws items : List ℕ) (count : ℕ) (new : List ℕ) (i : ℕ) : Type 0 where
+      pub same-fails : (m ≡ getD items i 0 → ⊥) → false ≡ same-numbers (map child b) (take count items)
+      same-fails f = agree-fails A in-children (λ q. f (is-child ∙ q ∙ getD-take count items i 0 l))
+
+  pub same-done : {i : ℕ} → Agree (map child b) (take count items) i → count ≤ i → true ≡ same-numbers (map child b) (take count items)
+  same-done A l = agree-done A (omega (arith, l, many))
+
+-- ---- i children exchanged, those of the body b
+pub record Exchanges (ws b items : List ℕ) (count : ℕ) (new : List ℕ) (i : ℕ) : Type 0 where
+  pub body : b ≡ drop 1 ws
   pub done : Exchanged ws items i new
   pub turn : i ≤ count
 
@@ -55,8 +66,9 @@ module _ {ws items : List ℕ} {count : ℕ} {old : List ℕ} (E : Exchanging ws
   pub head-there : 0 < length ws
   head-there = let z = child-inside ws 0 (omega (arith, E .some, E .as-many .count-is)) in omega arith
 
-  pub exchange-start : Exchanges ws items count (set old 0 (getD ws 0 0)) 0
+  pub exchange-start : Exchanges ws (take (length ws - 1) (drop 1 ws)) items count (set old 0 (getD ws 0 0)) 0
   exchange-start = record {
+    body = body-lent ws;
     done = record {
       size = length-set old 0 (getD ws 0 0) ∙ E .size;
       head = getD-set-same old 0 (getD ws 0 0) 0 (omega (arith, E .size));
@@ -65,15 +77,19 @@ module _ {ws items : List ℕ} {count : ℕ} {old : List ℕ} (E : Exchanging ws
     turn = omega arith;
   }
 
-  module _ {i : ℕ} (l : i < count) where
-    pub word-in : i + 1 < length ws
-    word-in = child-inside ws i (omega (arith, l, E .as-many .count-is))
+  module _ {b new : List ℕ} {i : ℕ} (X : Exchanges ws b items count new i) (l : i < count) where
+    pub word-in : i < length b
+    word-in = let z = child-inside ws i (omega (arith, l, E .as-many .count-is)) in omega (arith, z, ap length (X .body), length-drop 1 ws)
+
+    pub item-in : i < 65
+    item-in = omega (arith, l, E .as-many .few)
 
     pub item-low : getD items i 0 < 4096
     item-low = rw (getD-take count items i 0 l) at (below-at 4096 (take count items) (E .low) i (omega (arith, l, length-given (E .as-many))))
 
-    pub exchange-more : {new : List ℕ} {v : ℕ} → Exchanges ws items count new i → v ≡ with-child (getD ws (i + 1) 0) (getD items i 0) → Exchanges ws items count (set new (i + 1) v) (i + 1)
-    exchange-more {new} {v} X e = record {
+    pub exchange-more : {v : ℕ} → v ≡ with-child (getD b i 0) (getD items i 0) → Exchanges ws b items count (set new (i + 1) v) (i + 1)
+    exchange-more {v} e = record {
+      body = X .body;
       done = record {
         size = length-set new (i + 1) v ∙ X .done .size;
         head = getD-set-other new (i + 1) 0 v 0 (λ q. omega (arith, q)) ∙ X .done .head;
@@ -82,12 +98,15 @@ module _ {ws items : List ℕ} {count : ℕ} {old : List ℕ} (E : Exchanging ws
       turn = omega arith;
     }
       where
+        word : getD b i 0 ≡ getD ws (i + 1) 0
+        word = let s : 1 + i ≡ i + 1 = omega arith in ap (λ (x : List ℕ). getD x i 0) (X .body) ∙ getD-drop 1 ws i 0 ∙ ap (λ (k : ℕ). getD ws k 0) s
+
         go : (j : ℕ) → j < i + 1 → Dec (j ≡ i) → getD (set new (i + 1) v) (j + 1) 0 ≡ with-child (getD ws (j + 1) 0) (getD items j 0)
-        go j k (yes q) = rw q (getD-set-same new (i + 1) v 0 (omega (arith, X .done .size, same-item (E .as-many) l)) ∙ e)
+        go j k (yes q) = rw q (getD-set-same new (i + 1) v 0 (omega (arith, X .done .size, item-in)) ∙ e ∙ ap (λ (x : ℕ). with-child x (getD items i 0)) word)
         go j k (no q) = getD-set-other new (i + 1) (j + 1) v 0 (λ p. q (omega (arith, p))) ∙ X .done .each j (omega (arith, k, q))
 
-  pub exchange-done : {new : List ℕ} {i : ℕ} → Exchanges ws items count new i → count ≤ i → Exchanged ws items count new
-  exchange-done {new} {i} X l = let e : i ≡ count = omega (arith, l, X .turn) in rw e at (X .done)
+  pub exchange-done : {b new : List ℕ} {i : ℕ} → Exchanges ws b items count new i → count ≤ i → Exchanged ws items count new
+  exchange-done {b} {new} {i} X l = let e : i ≡ count = omega (arith, l, X .turn) in rw e at (X .done)
 
 -- ---- the words of the node
 -- a node with children has no number of its own
@@ -111,7 +130,7 @@ child-exchanged c e l = omega arith
 
 field-exchanged : (o : Bool) (n c e : ℕ) → n < 2 ^ 8 → c < 2 ^ 12 → field-word o n e ≡ with-child (field-word o n c) e
 unfolding with-child field-word
-field-exchanged o n c e k l = let z = field-child-made o n c (record { few-names = k; few-nodes = l }) in omega (arith, z)
+field-exchanged o n c e k l = let z = field-made o n c (record { few-names = k; few-nodes = l }) .child-back in omega (arith, z)
 
 words-exchanged : (fs : List Field) (cs es : List ℕ) → below (2 ^ 8) (field-names fs) ≡ true → below (2 ^ 12) cs ≡ true → length es ≡ length cs
     → (j : ℕ) → j < length cs → getD (child-words fs es) j 0 ≡ with-child (getD (child-words fs cs) j 0) (getD es j 0)

@@ -2,13 +2,14 @@
 use Prim.Native.Nat.{ℕ, _+_, _<_, _≤_}
 use mathlib.Core.Path.{_≡_, refl, sym, ap, _∙_, subst}
 use mathlib.Core.Bool.{Bool, true, false}
-use mathlib.Core.List.{List, []}
+use mathlib.Core.List.{List, [], map}
 use native.Mathlib.Omega.{arith}
 use native.Mathlib.Decide.{decLt}
 use lib.ListN.{length, take, replicate, length-replicate}
 use lib.Seq.{length-take-le}
 use mir.Syntax.{w64}
 use mir.Val.{Fits}
+use Rattle.words.specs.Words.{child}
 use Rattle.types.specs.Same.{same-numbers}
 use Rattle.types.specs.Node.{Node, node, tag, children, encode, below, formed, well, IsNode}
 use Rattle.types.specs.Arena.{Arena, at}
@@ -21,13 +22,15 @@ use Rattle.types.proofs.Lists.{below-more}
 use Rattle.types.proofs.Nodes.{nil, formed-parts}
 use Rattle.types.proofs.Sound.{at-well, at-formed}
 use Rattle.types.proofs.Addresses.{start-room}
-use Rattle.node_store.specs.Stored.{InRange, NodeAt}
-use Rattle.node_store.specs.Added.{Fresh, Interns}
+use Rattle.node_store.specs.Inner.Stored.{InRange, NodeAt}
+use Rattle.node_store.specs.Inner.Added.{Fresh, Interns}
 use Rattle.node_store.specs.declared.added.Interned.{Interned}
 use Rattle.node_store.specs.declared.added.Interned.the-variants as interned
 use Rattle.node_store.proofs.Additions.{finished}
 use Rattle.recursion.proofs.Interning.{node-is, well-again, intern-there}
-use Rattle.rebuilding.specs.Rebuilt.{AsMany, Exchanging, Exchanged, Rebuilding, Rebuilds}
+use Rattle.node_reading.specs.Nodes.{ChildWords}
+use Rattle.node_reading.proofs.Offspring as offspring
+use Rattle.rebuilding.specs.Inner.Rebuilt.{AsMany, OneEach, Exchanging, Exchanged, Rebuilding, Rebuilds}
 use Rattle.rebuilding.proofs.Copying.{children-read, few-read}
 use Rattle.rebuilding.proofs.Exchanging.{length-given, exchanged-encode}
 
@@ -56,7 +59,13 @@ module _ {w s : List ℕ} {c : Counters} {n : ℕ} {items : List ℕ} {count : �
   pub length-fits : Fits w64 (count + 1)
   length-fits = omega (arith, as-many .few)
 
-  module _ {r : Bool} (q : r ≡ same-numbers (children-in ws) (take count items)) where
+  pub one-each : {b : List ℕ} → ChildWords ws b → OneEach b items count
+  one-each D = record { long = B .long; few = as-many .few; count-is = omega (arith, as-many .count-is, offspring.as-many D) }
+
+  module _ {b : List ℕ} (D : ChildWords ws b) {r : Bool} (p : r ≡ same-numbers (map child b) (take count items)) where
+    q : r ≡ same-numbers (children-in ws) (take count items)
+    q = p ∙ ap (λ (cs : List ℕ). same-numbers cs (take count items)) (D .is)
+
     -- with its own children
     pub unchanged : r ≡ true → Rebuilds w s c n items count w s (interned.Node n c)
     unfolding reply-of

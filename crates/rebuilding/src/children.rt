@@ -1,15 +1,15 @@
 // Which children of a node a pass simplifies.
 use bits::test;
-use node_reading::children::child_at;
-use node_reading::children::child_count;
+use node_reading::children::child_words;
 use node_reading::nodes::first_child;
 use node_reading::nodes::kind_at;
 use node_store::stored::node_at;
 use types::Counters;
 use types::arc_ty::Head;
+use types::arc_ty::child;
 use types::arc_ty::wide;
-ghost use Rattle.node_store.specs.Stored.{InRange};
-ghost use Rattle.rebuilding.specs.Children.{RemovesVar, Removes, Drops, Space, Adds, AllChildren, Remains};
+ghost use Rattle.node_store.specs.Inner.Stored.{InRange};
+ghost use Rattle.rebuilding.specs.Inner.Children.{RemovesVar, Removes, Drops, Space, Adds, AllChildren, Remains};
 
 // The children of a node, in their order: a set with a dynamic part has up to 65.
 pub struct Children {
@@ -104,13 +104,12 @@ pub fn remaining(
     requires { ⌜ InRange (now words) (now starts) c n ⌝ }
     ensures { λ r. ⌜ Remains (now (words .entry)) (now (starts .entry)) c n (now (removable .entry)) keep r ⌝ }
 {
-    let node = node_at(words, starts, c, wide(n));
-    let all = child_count(node);
+    let body = child_words(node_at(words, starts, c, wide(n)));
     let mut items = [0u32; 65];
     let mut count = 0;
     let mut i = 0;
-    while i < all {
-        let m = child_at(node, i);
+    while i < body.len() {
+        let m = child(body[i]);
         let dropped = is_dropped(words, starts, c, m, removable, keep);
         count = add_unless(dropped, m, &mut items, count);
         i += 1;

@@ -1,5 +1,5 @@
 // A node with other children.
-use node_reading::children::child_at;
+use node_reading::children::child_words;
 use node_store::added::Interned;
 use node_store::added::intern_node;
 use node_store::stored::node_at;
@@ -8,19 +8,20 @@ use types::arc_ty::child;
 use types::arc_ty::wide;
 ghost use Prim.Native.Nat.{_<_};
 ghost use mathlib.Core.Path.{_≡_};
+ghost use mathlib.Core.List.{map};
 ghost use lib.ListN.{take};
+ghost use Rattle.words.specs.Words.{child};
 ghost use Rattle.types.specs.Same.{same-numbers};
-ghost use Rattle.types.specs.Fault.{children-in};
-ghost use Rattle.rebuilding.specs.Rebuilt.{with-child, AsMany, Exchanging, Exchanged, Rebuilding, Rebuilds};
+ghost use Rattle.rebuilding.specs.Inner.Rebuilt.{with-child, OneEach, Exchanging, Exchanged, Rebuilding, Rebuilds};
 
-// Whether the items are the children in the words of a node, of which there are as many.
-fn same_children(node: &[u32], items: &[u32; 65], count: usize) -> bool
-    requires { ⌜ AsMany (now node) (now items) count ⌝ }
-    ensures { λ r. ⌜ r ≡ same-numbers (children-in (now (node .entry))) (take count (now (items .entry))) ⌝ }
+// Whether the items are the children in the body of a node, of which there are as many.
+fn same_children(body: &[u32], items: &[u32; 65], count: usize) -> bool
+    requires { ⌜ OneEach (now body) (now items) count ⌝ }
+    ensures { λ r. ⌜ r ≡ same-numbers (map child (now (body .entry))) (take count (now (items .entry))) ⌝ }
 {
     let mut i = 0;
     while i < count {
-        if child_at(node, i) != items[i] {
+        if child(body[i]) != items[i] {
             return false;
         }
         i += 1;
@@ -42,10 +43,11 @@ pub fn exchange(node: &[u32], items: &[u32; 65], count: usize, new: &mut [u32; 6
     ensures { λ _. ⌜ Exchanged (now (node .entry)) (now (items .entry)) count (now (new .exit)) ⌝ }
 {
     new[0] = node[0];
+    let body = &node[1..];
     let mut i = 0;
     while i < count {
         let at = i + 1;
-        new[at] = with_child(node[at], items[i]);
+        new[at] = with_child(body[i], items[i]);
         i = at;
     }
 }
@@ -84,7 +86,8 @@ pub fn rebuild(
     ensures { λ r. ⌜ Rebuilds (now (words .entry)) (now (starts .entry)) c n (now (items .entry)) count (now (words .exit))
         (now (starts .exit)) r ⌝ }
 {
-    if same_children(node_at(words, starts, c, wide(n)), items, count) {
+    let body = child_words(node_at(words, starts, c, wide(n)));
+    if same_children(body, items, count) {
         return Interned::Node(n, c);
     }
     intern_with(words, starts, c, n, items, count)

@@ -13,15 +13,16 @@ use Rattle.types.proofs.Memories.{unique}
 use Rattle.types.proofs.Addresses.{length-heads}
 use Rattle.types.proofs.Replies.{rooted-no, rooted-yes}
 use Rattle.names.specs.Table.{Name}
-use Rattle.soundness.specs.Sound.{lent-reply, judged-out}
+use Rattle.soundness.specs.Inner.Sound.{lent-reply, judged-out}
 use Rattle.node_store.specs.Intern.{left}
 use Rattle.soundness.specs.declared.Judged.{Judged}
 use Rattle.soundness.specs.declared.Judged.the-variants as verdict
 use Rattle.node_store.specs.declared.added.Interned.{Interned}
 use Rattle.node_store.specs.declared.added.Interned.the-variants as interned
 use Rattle.soundness.proofs.Verdicts.{lent-names, lent-refused, lent-done}
-use Rattle.recursion.specs.Work.{Stands, TakesBackNodes}
-use Rattle.recursion.specs.Hosted.{Work, work-reply, LeadsOnce, done, stop, Works, WorksLent}
+use Rattle.recursion.specs.Inner.Work.{Stands, TakesBackNodes}
+use Rattle.recursion.specs.Hosted.{Work, work-reply}
+use Rattle.recursion.specs.Inner.Hosted.{LeadsOnce, done, stop, Works, WorksLent}
 use Rattle.recursion.proofs.Leading.{Stopped}
 
 -- ---- outcomes taken apart

@@ -19,14 +19,15 @@ use Rattle.node_store.specs.Intern.{left}
 use Rattle.node_store.specs.declared.added.Interned.{Interned}
 use Rattle.node_store.specs.declared.added.Interned.the-variants as interned
 use Rattle.recursion.specs.Jobs.{Job}
-use Rattle.recursion.specs.Cache.{Hit, Cache}
-use Rattle.recursion.specs.Work.{Recursion, Relation, Grown, Stands, Leads, done, stop, LeadsEach}
-use Rattle.recursion.specs.Work as work
-use Rattle.recursion.specs.Hosted.{LeadsOnce}
-use Rattle.recursion.specs.Hosted as once
+use Rattle.recursion.specs.Inner.Cache.{Hit, Cache}
+use Rattle.recursion.specs.Inner.Work.{Recursion, Relation, Grown, Stands, Leads, done, stop, LeadsEach}
+use Rattle.recursion.specs.Inner.Work as work
+use Rattle.recursion.specs.Inner.Hosted.{LeadsOnce}
+use Rattle.recursion.specs.Inner.Hosted as once
 use Rattle.recursion.specs.declared.Run.{Run}
 use Rattle.recursion.specs.declared.Run.the-variants as run
-use Rattle.recursion.proofs.Steady.{There, Steady, steady-later}
+use Rattle.recursion.specs.Theorems.{There, Steady}
+use Rattle.recursion.proofs.Steady.{steady-later}
 
 -- ---- what stands
 pub stands-ext : {a b : Arena} {w s : List ℕ} → Ext a b → Stands w s b → Stands w s a

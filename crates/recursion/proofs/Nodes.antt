@@ -14,8 +14,8 @@ use Rattle.node_store.specs.declared.added.Interned.{Interned}
 use Rattle.node_store.specs.declared.added.Interned.the-variants as interned
 use Rattle.node_store.proofs.Interning.{done, done-ext}
 use Rattle.recursion.specs.Jobs.{Job, each, rebuild}
-use Rattle.recursion.specs.Cache.{Cache}
-use Rattle.recursion.specs.Work.{Recursion, Relation, Leads, Does, DoesEach}
+use Rattle.recursion.specs.Inner.Cache.{Cache}
+use Rattle.recursion.specs.Inner.Work.{Recursion, Relation, Leads, Does, DoesEach}
 use Rattle.recursion.specs.declared.Run.{Run}
 use Rattle.recursion.specs.declared.Run.the-variants as run
 use Rattle.recursion.proofs.Leading.{Lawful, stop-leads, EachDone, each-done, each-stop, reply-leads}

@@ -12,8 +12,8 @@ use Rattle.types.proofs.Addresses.{start-room}
 use Rattle.node_store.specs.declared.added.Interned.{Interned}
 use Rattle.node_store.specs.declared.added.Interned.the-variants as interned
 use Rattle.recursion.specs.Jobs.{Job}
-use Rattle.recursion.specs.Cache.{Hit, Cache, CacheRoom, Remembers}
-use Rattle.recursion.specs.Work.{Recursion, Relation, Leads, done, Ready, Does}
+use Rattle.recursion.specs.Inner.Cache.{Hit, Cache, CacheRoom, Remembers}
+use Rattle.recursion.specs.Inner.Work.{Recursion, Relation, Leads, done, Ready, Does}
 use Rattle.recursion.proofs.Leading.{Lawful, leads-done}
 
 -- ---- one entry

@@ -1,6 +1,6 @@
 -- The cache law: what a recursion over an arena answered once it answers again in every later sound arena, and it adds nothing then. Jobs of which
 -- that is so are steady. Interning is; one steady job after another is; so is a recursion whose every step is, if the steps behind it are.
-use Prim.Native.Nat.{ℕ, suc, _<_, _≤_}
+use Prim.Native.Nat.{ℕ, suc, _<_}
 use mathlib.Core.Path.{_≡_, refl, sym, ap, _∙_, subst}
 use mathlib.Core.Bool.{Bool, true, false}
 use mathlib.Core.List.{List, [], _∷_, List·Memᴰ as Mem, List·Memᴰ·head as head, List·Memᴰ·tail as tail}
@@ -9,36 +9,17 @@ use lib.ListN.{length, getD}
 use lib.Dec.{eqb}
 use borrow.Author.Tests.{eqb-true, eqb-false, lt-ltb}
 use Rattle.types.specs.Out.{Out, ok, refuse, _>>=_}
-use Rattle.types.specs.Node.{Tag, Node, node, tag, children, below, well}
+use Rattle.types.specs.Node.{Node, node, tag, children, below, well}
 use Rattle.types.specs.Arena.{Arena, rec, sound, Ext, here}
 use Rattle.types.proofs.Lists.{below-more}
 use Rattle.types.proofs.Growth.{ext-trans, ext-length, at-new, rec-grow, rec-new}
 use Rattle.types.proofs.Sound.{sound-well, sound-tail, child-lower}
 use Rattle.node_store.specs.Intern.{intern}
 use Rattle.recursion.specs.Jobs.{Job, each, rebuild}
+use Rattle.recursion.specs.Theorems.{Finished, Steady, There, RecSteady, InternSteady, ThenSteady, EachSteady, RebuildSteady}
 use Rattle.recursion.proofs.Members.{index-of}
 use Rattle.recursion.proofs.Answers.{ok-refuse, ok-same, bind-parts, bind-ok}
 use Rattle.recursion.proofs.Interning.{node-is, at-later, well-again, interned, intern-there}
-
--- a finished job: a became b, in which the answer x makes sense; it is given again in every sound arena that grew from b
-pub record Finished {A : Type 0} (table : ℕ) (fits : A → Arena → Type 0) (j : Arena → Out (A × Arena)) (a : Arena) (x : A) (b : Arena) : Type 0 where
-  pub ext : Ext a b
-  pub good : sound table b ≡ true
-  pub inside : fits x b
-  pub again : (d : Arena) → Ext b d → sound table d ≡ true → j d ≡ ok (x, d)
-
--- a job that is finished so whenever it finishes, in any sound arena that grew from `start`
-pub record Steady {A : Type 0} (table : ℕ) (start : Arena) (fits : A → Arena → Type 0) (j : Arena → Out (A × Arena)) : Type 0 where
-  pub is : (a b : Arena) (x : A) → Ext start a → sound table a ≡ true → j a ≡ ok (x, b) → Finished table fits j a x b
-
--- a node's number that is there
-abbrev pub There : ℕ → Arena → Type 0
-There m a = m < length a
-
--- so many numbers, all there
-pub record AllThere (n : ℕ) (ms : List ℕ) (a : Arena) : Type 0 where
-  pub count : length ms ≡ n
-  pub low : below (length a) ms ≡ true
 
 module _ {A : Type 0} {table : ℕ} {fits : A → Arena → Type 0} where
   pub steady-later : {start a : Arena} {j : Arena → Out (A × Arena)} → Ext start a → Steady table start fits j → Steady table a fits j
@@ -63,8 +44,7 @@ module _ {A : Type 0} {table : ℕ} {fits : A → Arena → Type 0} where
   }
 
 -- one job after another
-pub then-steady : {A B : Type 0} {table : ℕ} {start : Arena} {fits : A → Arena → Type 0} {suits : B → Arena → Type 0} (j : Arena → Out (A × Arena)) (k : A → Arena → Out (B × Arena)) → Steady table start fits j
-    → ((x : A) (a : Arena) → Ext start a → sound table a ≡ true → fits x a → Steady table a suits (k x)) → Steady table start suits (λ (a : Arena). j a >>= λ (r : A × Arena). k (r .0) (r .1))
+pub then-steady : {A B : Type 0} {table : ℕ} {start : Arena} {fits : A → Arena → Type 0} {suits : B → Arena → Type 0} (j : Arena → Out (A × Arena)) (k : A → Arena → Out (B × Arena)) → ThenSteady table start fits suits j k
 then-steady {A} j k J K = record {
   is = λ a b y e g q.
       let p = bind-parts (j a) (λ (r : A × Arena). k (r .0) (r .1)) q in
@@ -78,33 +58,31 @@ then-steady {A} j k J K = record {
       };
 }
 
-module _ (table : ℕ) (f : ℕ → Job) where
-  pub each-steady : (cs : List ℕ) (start : Arena) → ((c : ℕ) → Mem c cs → Steady table start There (f c)) → Steady table start (AllThere (length cs)) (each f cs)
-  unfolding each below
-  each-steady [] start h = answer-steady start [] (λ a e. record { count = refl; low = refl })
-  each-steady (c ∷ cs) start h =
-      then-steady (f c) (λ (m : ℕ) (a : Arena). each f cs a >>= λ (q : List ℕ × Arena). ok (m ∷ q .0, q .1)) (h c (head refl))
-      (λ m a e g l. then-steady (each f cs) (λ (ms : List ℕ) (b : Arena). ok (m ∷ ms, b)) (each-steady cs a (λ d i. steady-later e (h d (tail i))))
-      (λ ms b x k I. answer-steady b (m ∷ ms)
-      (λ d y. record { count = ap suc (I .count); low = low m ms a b d l x y (I .low) })))
-    where
-      low : (m : ℕ) (ms : List ℕ) (a b d : Arena) → m < length a → Ext a b → Ext b d → below (length b) ms ≡ true → below (length d) (m ∷ ms) ≡ true
-      low m ms a b d l x y e = rw (lt-ltb m (length d) (omega (arith, l, ext-length a b x, ext-length b d y))) (below-more (length b) (length d) ms (ext-length b d y) e)
+pub each-steady : EachSteady
+unfolding each below
+each-steady table f [] start h = answer-steady start [] (λ a e. record { count = refl; low = refl })
+each-steady table f (c ∷ cs) start h =
+    then-steady (f c) (λ (m : ℕ) (a : Arena). each f cs a >>= λ (q : List ℕ × Arena). ok (m ∷ q .0, q .1)) (h c (head refl))
+    (λ m a e g l. then-steady (each f cs) (λ (ms : List ℕ) (b : Arena). ok (m ∷ ms, b)) (each-steady table f cs a (λ d i. steady-later e (h d (tail i))))
+    (λ ms b x k I. answer-steady b (m ∷ ms)
+    (λ d y. record { count = ap suc (I .count); low = low m ms a b d l x y (I .low) })))
+  where
+    low : (m : ℕ) (ms : List ℕ) (a b d : Arena) → m < length a → Ext a b → Ext b d → below (length b) ms ≡ true → below (length d) (m ∷ ms) ≡ true
+    low m ms a b d l x y e = rw (lt-ltb m (length d) (omega (arith, l, ext-length a b x, ext-length b d y))) (below-more (length b) (length d) ms (ext-length b d y) e)
 
-module _ (words starts table : ℕ) (few : starts ≤ 4096) where
-  pub intern-steady : (start : Arena) (x : Node) → ((a : Arena) → Ext start a → length a ≤ 4096 → well table (length a) x ≡ true) → Steady table start There (intern words starts x)
-  intern-steady start x w = record {
-    is = λ a b m e g q.
-        let J = interned words starts table few x a g m b (w a e) q in
-        record { ext = J .ext; good = J .good; inside = J .is .inside; again = λ d f h. intern-there words starts table x d h m (at-later f (J .is)) };
-  }
+pub intern-steady : InternSteady
+intern-steady words starts table few start x w = record {
+  is = λ a b m e g q.
+      let J = interned words starts table few x a g m b (w a e) q in
+      record { ext = J .ext; good = J .good; inside = J .is .inside; again = λ d f h. intern-there words starts table x d h m (at-later f (J .is)) };
+}
 
-  -- a node with what its children became
-  pub rebuild-steady : (start : Arena) (n : ℕ) (t : Tag) (cs : List ℕ) (f : ℕ → Job) → well table n (node t cs) ≡ true → ((c : ℕ) → Mem c cs → Steady table start There (f c)) → Steady table start There (rebuild words starts t cs f)
-  unfolding rebuild
-  rebuild-steady start n t cs f w h =
-      then-steady (each f cs) (λ (ms : List ℕ). intern words starts (node t ms)) (each-steady table f cs start h)
-      (λ ms a e g I. intern-steady a (node t ms) (λ b x k. well-again table (length b) k n t cs ms w (I .count) (below-more (length a) (length b) ms (ext-length a b x) (I .low))))
+-- a node with what its children became
+pub rebuild-steady : RebuildSteady
+unfolding rebuild
+rebuild-steady words starts table few start n t cs f w h =
+    then-steady (each f cs) (λ (ms : List ℕ). intern words starts (node t ms)) (each-steady table f cs start h)
+    (λ ms a e g I. intern-steady words starts table few a (node t ms) (λ b x k. well-again table (length b) k n t cs ms w (I .count) (below-more (length a) (length b) ms (ext-length a b x) (I .low))))
 
 -- ---- a recursion
 -- a node behind which stands a sound arena
@@ -118,17 +96,14 @@ module _ (table : ℕ) (x : Node) (s : Arena) (g : sound table (x ∷ s) ≡ tru
       let low = subst (λ (y : Node). (i : ℕ) → i < length (children y) → getD (children y) i 0 < length s) (at-new x s) (child-lower table (x ∷ s) g (length s) (omega arith)) in
       omega (arith, j .is, low (j .index) (j .inside))
 
--- `job` says what is done for each i, and `from` which arena the work on a source begins with (the source itself, or none of it)
-module _ (table : ℕ) {Y I : Type 0} (job : Y → I → Job) (step : Arena → Node → (ℕ → Y) → Y) (y : Y) (from : Arena → Arena) (grows : (x : Node) (s : Arena) → Ext (from s) (from (x ∷ s)))
-    (steady : (x : Node) (s : Arena) (f : ℕ → Y) → sound table (x ∷ s) ≡ true → ((c : ℕ) → c < length s → (i : I) → Steady table (from s) There (job (f c) i)) → (i : I) → Steady table (from (x ∷ s)) There (job (step s x f) i)) where
-  pub rec-steady : (s : Arena) → sound table s ≡ true → (n : ℕ) → n < length s → (i : I) → Steady table (from s) There (job (rec step y s n) i)
-  rec-steady [] g n l i = absurd (omega arith)
-  rec-steady (x ∷ s) g n l i = go (eqb n (length s)) refl (rec-steady s (sound-tail table x s g))
-    where
-      go : (b : Bool) → eqb n (length s) ≡ b → ((n : ℕ) → n < length s → (i : I) → Steady table (from s) There (job (rec step y s n) i)) → Steady table (from (x ∷ s)) There (job (rec step y (x ∷ s) n) i)
-      go true e h =
-          let q = ap (rec step y (x ∷ s)) (eqb-true n (length s) e) ∙ rec-new step y x s in
-          subst (λ (v : Y). Steady table (from (x ∷ s)) There (job v i)) (sym q) (steady x s (rec step y s) g h i)
-      go false e h =
-          let k : n < length s = let z : n ≡ length s → ⊥ = eqb-false n (length s) e in omega arith in
-          subst (λ (v : Y). Steady table (from (x ∷ s)) There (job v i)) (sym (rec-grow step y x s n k)) (steady-later (grows x s) (h n k i))
+pub rec-steady : (table : ℕ) {Y I : Type 0} (job : Y → I → Job) (step : Arena → Node → (ℕ → Y) → Y) (y : Y) (from : Arena → Arena) → RecSteady table job step y from
+rec-steady table job step y from grows steady [] g n l i = absurd (omega arith)
+rec-steady table {Y} {I} job step y from grows steady (x ∷ s) g n l i = go (eqb n (length s)) refl (rec-steady table job step y from grows steady s (sound-tail table x s g))
+  where
+    go : (b : Bool) → eqb n (length s) ≡ b → ((n : ℕ) → n < length s → (i : I) → Steady table (from s) There (job (rec step y s n) i)) → Steady table (from (x ∷ s)) There (job (rec step y (x ∷ s) n) i)
+    go true e h =
+        let q = ap (rec step y (x ∷ s)) (eqb-true n (length s) e) ∙ rec-new step y x s in
+        subst (λ (v : Y). Steady table (from (x ∷ s)) There (job v i)) (sym q) (steady x s (rec step y s) g h i)
+    go false e h =
+        let k : n < length s = let z : n ≡ length s → ⊥ = eqb-false n (length s) e in omega arith in
+        subst (λ (v : Y). Steady table (from (x ∷ s)) There (job v i)) (sym (rec-grow step y x s n k)) (steady-later (grows x s) (h n k i))

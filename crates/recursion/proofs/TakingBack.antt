@@ -5,7 +5,7 @@ use mathlib.Core.List.{List, [], _∷_, _++_, append-assoc, append-nil}
 use native.Mathlib.Omega.{arith}
 use lib.ListN.{length, getD, take, drop, set, replicate, length-set, length-append, length-replicate, take-append-drop, drop-of-length-le}
 use lib.Seq.{drop-cons, length-take-le, set-at}
-use Rattle.recursion.specs.Work.{TakesBack}
+use Rattle.recursion.specs.Inner.Work.{TakesBack}
 
 -- the words from the place to i are zero
 pub record Clearing (w₀ : List ℕ) (from : ℕ) (w : List ℕ) (i : ℕ) : Type 0 where

@@ -17,8 +17,8 @@ use Rattle.types.proofs.Lists.{below-at, below-more, below-cons}
 use Rattle.node_store.specs.declared.added.Interned.{Interned}
 use Rattle.node_store.specs.declared.added.Interned.the-variants as interned
 use Rattle.recursion.specs.Jobs.{Job, each}
-use Rattle.recursion.specs.Cache.{Cache}
-use Rattle.recursion.specs.Work.{Recursion, Relation, Leads, Ready, Does, EachReady, LeadsEach, went, stop, DoesEach}
+use Rattle.recursion.specs.Inner.Cache.{Cache}
+use Rattle.recursion.specs.Inner.Work.{Recursion, Relation, Leads, Ready, Does, EachReady, LeadsEach, went, stop, DoesEach}
 use Rattle.recursion.specs.declared.Run.the-variants as run
 use Rattle.recursion.proofs.Leading.{Lawful, stands-ext, leads-done, leads-stop}
 

@@ -1,4 +1,4 @@
 pub mod Jobs
-pub mod Cache
-pub mod Work
 pub mod Hosted
+pub mod Theorems
+pub mod Inner

@@ -3,14 +3,27 @@ use types::arc_ty::wide;
 ghost use mathlib.Core.Path.{_≡_};
 ghost use Prim.Native.Nat.{_<_};
 ghost use lib.ListN.{getD};
-ghost use Rattle.recursion.specs.Cache.{CacheRoom, Remembers};
-ghost use Rattle.recursion.specs.Work.{TakesBack, TakesBackNodes};
+ghost use Rattle.recursion.specs.Inner.Cache.{CacheRoom, Remembers};
+ghost use Rattle.types.specs.Out.{number};
+ghost use Rattle.recursion.specs.Inner.Work.{run-out, TakesBack, TakesBackNodes};
 use types::Counters;
 
 // Whether several nodes were worked on, with the counters after, or the number of a refusal.
 pub enum Run {
     Went(Counters),
     Refused(u32),
+}
+
+impl Run {
+    // The number of a refusal, for an answer of another type.
+    pub fn refusal(self) -> u32
+        ensures { λ r. ⌜ r ≡ number (run-out self) ⌝ }
+    {
+        match self {
+            Run::Went(_) => 0,
+            Run::Refused(number) => number,
+        }
+    }
 }
 
 // What is known of node n: 0 for nothing yet, else what it becomes and one.

@@ -17,16 +17,16 @@ use Rattle.types.specs.declared.Counters.{Counters}
 use Rattle.types.proofs.Tests.{true-false, and-true}
 use Rattle.types.proofs.Lists.{length-padded}
 use Rattle.types.proofs.Addresses.{start-room}
-use Rattle.node_store.specs.Stored.{InRange}
+use Rattle.node_store.specs.Inner.Stored.{InRange}
 use Rattle.node_store.specs.Intern.{intern}
 use Rattle.node_store.specs.declared.added.Interned.{Interned}
 use Rattle.node_store.specs.declared.added.Interned.the-variants as interned
-use Rattle.walks.specs.Asked.{Says}
-use Rattle.node_reading.specs.Nodes.{KindAt}
+use Rattle.walks.specs.Inner.Asked.{Says}
+use Rattle.node_reading.specs.Inner.{KindAt}
 use Rattle.recursion.specs.Jobs.{Job}
-use Rattle.recursion.specs.Work.{Leads, Ready, Does}
-use Rattle.recursion.specs.Work as work
-use Rattle.recursion.specs.Hosted.{LeadsOnce, done, stop, Works}
+use Rattle.recursion.specs.Inner.Work.{Leads, Ready, Does}
+use Rattle.recursion.specs.Inner.Work as work
+use Rattle.recursion.specs.Inner.Hosted.{LeadsOnce, done, stop, Works}
 use Rattle.recursion.proofs.Steady.{intern-steady}
 use Rattle.recursion.proofs.Leading.{reply-once}
 use Rattle.recursion.proofs.Remembering.{cache-none}
@@ -35,7 +35,8 @@ use Rattle.free_vars.specs.declared.VarList.{VarList}
 use Rattle.free_vars.proofs.Occurrences.{kind-var}
 use Rattle.free_vars.proofs.VarPlaces.{listed-few}
 use Rattle.renumbering.specs.Renumbered.{var-node, renumbered}
-use Rattle.renumber.specs.Renumber.{by-vars, normalize-vars, unknown, normalize}
+use Rattle.types.specs.Tyvar.{unknown}
+use Rattle.renumber.specs.Renumber.{by-vars, normalize-vars, normalize}
 use Rattle.renumbering.specs.Inner.{Numbered, InternsVar}
 use Rattle.renumbering.proofs.VarNodes.{var-well}
 use Rattle.renumbering.proofs.Working.{no-var}

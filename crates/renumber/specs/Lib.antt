@@ -1,1 +1,2 @@
 pub mod Renumber
+pub mod Theorems

@@ -3,6 +3,7 @@ use Prim.Native.Nat.{ℕ}
 use mathlib.Core.Bool.{Bool, true, false}
 use mathlib.Core.List.{List, [], _∷_}
 use mathlib.Core.Option.{none, some}
+use Rattle.types.specs.Tyvar.{unknown}
 use Rattle.types.specs.Out.{ok}
 use Rattle.types.specs.Node.{tag}
 use Rattle.types.specs.Arena.{at}
@@ -22,10 +23,6 @@ module _ (words starts root : ℕ) where
   unfoldable pub normalize-vars : Job
   unfolding by-vars free-type-vars
   normalize-vars a = by-vars (free-type-vars a root) a
-
--- the variable of a type of which nothing is known
-abbrev pub unknown : ℕ
-unknown = 4294967295
 
 -- both calls: `normalize_replacing_unknown` makes a root that is a variable the unknown one
 unfoldable pub normalize : Bool → ℕ → ℕ → ℕ → Job

@@ -13,9 +13,10 @@ use types::arc_ty::UNKNOWN_TYVAR;
 use types::arc_ty::wide;
 ghost use mathlib.Core.Path.{_≡_};
 ghost use mathlib.Core.Bool.{true, false};
-ghost use Rattle.node_store.specs.Stored.{Lent, InRange};
+ghost use Rattle.node_store.specs.Inner.Stored.{Lent, InRange};
 ghost use Rattle.node_store.specs.Intern.{left};
-ghost use Rattle.recursion.specs.Hosted.{work-reply, Works, WorksLent};
+ghost use Rattle.recursion.specs.Hosted.{work-reply};
+ghost use Rattle.recursion.specs.Inner.Hosted.{Works, WorksLent};
 ghost use Rattle.renumber.specs.Renumber.{normalize-vars, normalize};
 
 // `normalize_vars` in an arena that is known to be sound and has the root. A refusal leaves the nodes that were added.

@@ -15,7 +15,8 @@ use Rattle.node_store.specs.Intern.{intern}
 use Rattle.recursion.specs.Jobs.{Job, rebuild}
 use Rattle.recursion.proofs.Answers.{rebuild-same}
 use Rattle.recursion.proofs.Members.{index-of}
-use Rattle.recursion.proofs.Steady.{Steady, There, steady-later, steady-as, intern-steady, rebuild-steady, step-well, step-child, rec-steady}
+use Rattle.recursion.specs.Theorems.{Steady, There}
+use Rattle.recursion.proofs.Steady.{steady-later, steady-as, intern-steady, rebuild-steady, step-well, step-child, rec-steady}
 use Rattle.recursion.proofs.Leading.{Lawful}
 use Rattle.renumbering.specs.Renumbered.{index, var-number, var-node, renumber-step, renumbered}
 use Rattle.renumbering.specs.Inner.{Numbered}

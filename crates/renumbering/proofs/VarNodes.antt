@@ -14,9 +14,9 @@ use Rattle.types.specs.Memory.{Holds}
 use Rattle.types.specs.Reply.{reply-of}
 use Rattle.types.specs.declared.Counters.{Counters}
 use Rattle.types.proofs.Sound.{at-formed}
-use Rattle.node_store.specs.Stored.{Lent, InRange, NodeAt}
+use Rattle.node_store.specs.Inner.Stored.{Lent, InRange, NodeAt}
 use Rattle.node_store.specs.Intern.{intern, left}
-use Rattle.node_store.specs.Added.{Fresh, Interns}
+use Rattle.node_store.specs.Inner.Added.{Fresh, Interns}
 use Rattle.node_store.specs.declared.added.Interned.{Interned}
 use Rattle.free_vars.proofs.Occurrences.{kind-var, var-alone}
 use Rattle.renumbering.specs.Renumbered.{index, var-node}

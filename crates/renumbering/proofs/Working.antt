@@ -13,15 +13,15 @@ use Rattle.types.specs.Reply.{reply-of}
 use Rattle.types.specs.declared.Counters.{Counters}
 use Rattle.types.proofs.Growth.{ext-length, ext-at}
 use Rattle.types.proofs.Sound.{sound-ext, children-below}
-use Rattle.node_store.specs.Stored.{InRange}
+use Rattle.node_store.specs.Inner.Stored.{InRange}
 use Rattle.node_store.specs.Intern.{intern}
 use Rattle.node_store.specs.declared.added.Interned.{Interned}
 use Rattle.node_store.specs.declared.added.Interned.the-variants as interned
-use Rattle.node_reading.specs.Nodes.{KindAt}
-use Rattle.rebuilding.specs.Children.{AllChildren}
-use Rattle.rebuilding.specs.Rebuilt.{Rebuilding, Rebuilds}
+use Rattle.node_reading.specs.Inner.{KindAt}
+use Rattle.rebuilding.specs.Inner.Children.{AllChildren}
+use Rattle.rebuilding.specs.Inner.Rebuilt.{Rebuilding, Rebuilds}
 use Rattle.rebuilding.specs.declared.children.Children.{Children}
-use Rattle.recursion.specs.Work.{Leads, Ready, Does, EachReady, DoesEach}
+use Rattle.recursion.specs.Inner.Work.{Leads, Ready, Does, EachReady, DoesEach}
 use Rattle.recursion.specs.declared.Run.{Run}
 use Rattle.recursion.specs.declared.Run.the-variants as run
 use Rattle.recursion.proofs.Leading.{each-done, reply-leads}

@@ -8,10 +8,10 @@ use Rattle.types.specs.Arena.{Arena, at, Ext}
 use Rattle.types.specs.Memory.{Holds}
 use Rattle.types.specs.Reply.{reply-of}
 use Rattle.types.specs.declared.Counters.{Counters}
-use Rattle.node_store.specs.Stored.{Lent}
+use Rattle.node_store.specs.Inner.Stored.{Lent}
 use Rattle.node_store.specs.Intern.{intern, left}
 use Rattle.node_store.specs.declared.added.Interned.{Interned}
-use Rattle.node_reading.specs.Nodes.{KindAt}
+use Rattle.node_reading.specs.Inner.{KindAt}
 use Rattle.renumbering.specs.Renumbered.{index, var-node}
 
 -- work in place with a list of variables that is no longer than an arena

@@ -11,7 +11,7 @@ use recursion::remember;
 use types::Counters;
 use types::arc_ty::Head;
 use types::arc_ty::wide;
-ghost use Rattle.recursion.specs.Work.{Ready, Does, EachReady, DoesEach};
+ghost use Rattle.recursion.specs.Inner.Work.{Ready, Does, EachReady, DoesEach};
 ghost use Rattle.renumbering.specs.Renumbered.{renumbered};
 ghost use Rattle.renumbering.specs.Inner.{Numbered};
 
@@ -59,10 +59,10 @@ fn renumber_uncached(
     let mut list = all_children(words, starts, c, n);
     let count = list.count;
     let r = renumber_each(words, starts, c, n, &mut list.items, count, vars, cache);
-    match r {
-        Run::Went(d) => rebuild(words, starts, d, n, &list.items, count),
-        Run::Refused(number) => Interned::Refused(number),
-    }
+    let Run::Went(d) = r else {
+        return Interned::Refused(r.refusal());
+    };
+    rebuild(words, starts, d, n, &list.items, count)
 }
 
 // What each of the first `count` items becomes, in its place; all are below n.
@@ -86,15 +86,11 @@ fn renumber_each(
     while i < count {
         let item = item_at(items, i);
         let r = renumber_node(words, starts, last, item, vars, cache);
-        match r {
-            Interned::Refused(number) => {
-                return Run::Refused(number);
-            }
-            Interned::Node(m, d) => {
-                items[i] = m;
-                last = d;
-            }
-        }
+        let Interned::Node(m, d) = r else {
+            return Run::Refused(r.refusal());
+        };
+        items[i] = m;
+        last = d;
         i += 1;
     }
     Run::Went(last)

@@ -8,7 +8,7 @@ use types::arc_ty::wide;
 ghost use mathlib.Core.Path.{_≡_};
 ghost use Prim.Native.Nat.{_≤_};
 ghost use lib.ListN.{length};
-ghost use Rattle.node_store.specs.Stored.{Lent};
+ghost use Rattle.node_store.specs.Inner.Stored.{Lent};
 ghost use Rattle.renumbering.specs.Renumbered.{index};
 ghost use Rattle.renumbering.specs.Inner.{VarAt, VarIs, InternsVar, RenumbersVar};
 

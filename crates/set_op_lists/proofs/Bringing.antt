@@ -12,17 +12,17 @@ use Rattle.types.specs.Memory.{Holds}
 use Rattle.types.specs.declared.Counters.{Counters}
 use Rattle.types.proofs.Faults.{children-encode}
 use Rattle.types.proofs.Sound.{at-formed}
-use Rattle.node_store.specs.Stored.{NodeAt}
+use Rattle.node_store.specs.Inner.Stored.{NodeAt}
 use Rattle.node_store.specs.declared.added.Interned.{Interned}
 use Rattle.node_store.specs.declared.added.Interned.the-variants as interned
-use Rattle.node_reading.specs.Nodes.{KindAt}
+use Rattle.node_reading.specs.Inner.{KindAt}
 use Rattle.simplification.proofs.Answers.{same-tag-if, same-tag-not}
-use Rattle.member_lists.specs.Members.{grown-out, Grows, Splicing}
+use Rattle.member_lists.specs.Inner.Members.{grown-out, Grows, Splicing}
 use Rattle.member_lists.specs.declared.growing.Grown.{Grown}
 use Rattle.member_lists.specs.declared.growing.Grown.the-variants as grown
 use Rattle.member_lists.proofs.BoundKinds.{list-told}
 use Rattle.set_op_lists.specs.SetOps.{brings}
-use Rattle.set_op_lists.specs.Lists.{Appends, Bringing, BringsNode, Brings}
+use Rattle.set_op_lists.specs.Inner.{Appends, Bringing, BringsNode, Brings}
 use Rattle.set_op_lists.specs.declared.Brought.{Brought}
 use Rattle.set_op_lists.specs.declared.Brought.the-variants as brought
 

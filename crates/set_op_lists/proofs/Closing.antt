@@ -16,14 +16,14 @@ use Rattle.types.specs.declared.Counters.{Counters}
 use Rattle.node_store.specs.Intern.{intern}
 use Rattle.node_store.specs.declared.added.Interned.{Interned}
 use Rattle.node_store.specs.declared.added.Interned.the-variants as interned
-use Rattle.member_lists.specs.Members.{Filled, InternsList}
+use Rattle.member_lists.specs.Inner.Members.{Filled, InternsList}
 use Rattle.member_lists.proofs.Closings.{stands}
 use Rattle.member_lists.proofs.Copying.{room-length}
 use Rattle.member_sorting.specs.Sort.{sort}
-use Rattle.member_sorting.specs.Sorting.{Sorting, Sorts}
+use Rattle.member_sorting.specs.Inner.{Sorting, Sorts}
 use Rattle.member_sorting.proofs.Sorted.{sorted, sort-below}
 use Rattle.set_op_lists.specs.SetOps.{stand-for}
-use Rattle.set_op_lists.specs.Lists.{StandsFor}
+use Rattle.set_op_lists.specs.Inner.{StandsFor}
 
 module _ (lw ls : ℕ) (k : Polarity) (ms : List ℕ) (a : Arena) where
   pub stand-for-one : length ms ≡ 1 → stand-for lw ls k ms a ≡ ok (getD ms 0 0, a)

@@ -1,2 +1,2 @@
 pub mod SetOps
-pub mod Lists
+pub mod Inner

@@ -23,11 +23,11 @@ brings k m x = elim (same-tag (tag x) (members k)) [ true ↦ children x | false
 -- the list so far, and the first copies of what the members bring, each normalized in its turn: what it brings is appended before the next
 -- is normalized,
 -- and so 8 may come before a later member's 7
-unfoldable pub flatten : Polarity → (ℕ → Job) → List ℕ → List ℕ → Arena → Out (List ℕ × Arena)
+unfoldable pub flatten-set-op : Polarity → (ℕ → Job) → List ℕ → List ℕ → Arena → Out (List ℕ × Arena)
 unfolding first-copies brings at _>>=_
-flatten k f acc [] a = ok (acc, a)
-flatten k f acc (c ∷ cs) a =
-    f c a >>= λ r. first-copies acc (brings k (r .0) (at (r .1) (r .0))) >>= λ (l : List ℕ). flatten k f l cs (r .1)
+flatten-set-op k f acc [] a = ok (acc, a)
+flatten-set-op k f acc (c ∷ cs) a =
+    f c a >>= λ r. first-copies acc (brings k (r .0) (at (r .1) (r .0))) >>= λ (l : List ℕ). flatten-set-op k f l cs (r .1)
 
 module _ (words starts : ℕ) where
   -- what stands for a list: one member for itself, more as a node
@@ -37,10 +37,10 @@ module _ (words starts : ℕ) where
 
   -- a node, by what is done with its children; one without children is itself
   unfoldable pub set-ops-step : Arena → Node → (ℕ → Job) → Job
-  unfolding rebuild flatten stand-for sort _>>=_
+  unfolding rebuild flatten-set-op stand-for sort _>>=_
   set-ops-step s x f a = elim (list-kind (tag x)) [
     | none ↦ rebuild words starts (tag x) (children x) f a
-    | some k ↦ flatten k f [] (children x) a >>= λ r. stand-for k (sort (r .1) (r .0)) (r .1)
+    | some k ↦ flatten-set-op k f [] (children x) a >>= λ r. stand-for k (sort (r .1) (r .0)) (r .1)
   ]
 
   -- node n of the arena s, in an arena that grew from s

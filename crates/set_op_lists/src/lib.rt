@@ -12,13 +12,28 @@ use node_store::stored::node_at;
 use types::Counters;
 use types::arc_ty::Head;
 use types::arc_ty::wide;
-ghost use Rattle.member_lists.specs.Members.{Splicing, Filled};
-ghost use Rattle.set_op_lists.specs.Lists.{Appends, Bringing, Brings, StandsFor};
+ghost use mathlib.Core.Path.{_≡_};
+ghost use mathlib.Core.List.{[]};
+ghost use Rattle.types.specs.Out.{number};
+ghost use Rattle.member_lists.specs.Inner.Members.{Splicing, Filled};
+ghost use Rattle.set_op_lists.specs.Inner.{brought-out, Appends, Bringing, Brings, StandsFor};
 
 // How long the list is after a member, and the counters then, or the number of a refusal.
 pub enum Brought {
     Held(usize, Counters),
     Refused(u32),
+}
+
+impl Brought {
+    // The number of a refusal, for an answer of another type.
+    pub fn refusal(self) -> u32
+        ensures { λ r. ⌜ r ≡ number (brought-out [] self) ⌝ }
+    {
+        match self {
+            Brought::Held(_, _) => 0,
+            Brought::Refused(number) => number,
+        }
+    }
 }
 
 // Appends what the normalized member m brings to a list of a kind: a list of that kind its own members, any other itself.
@@ -53,16 +68,14 @@ pub fn bring(
     requires { ⌜ Bringing (now words) (now starts) outcome kind (now items) count ⌝ }
     ensures { λ r. ⌜ Brings (now (words .entry)) (now (starts .entry)) outcome kind (now (items .entry)) count (now (items .exit)) r ⌝ }
 {
-    match outcome {
-        Interned::Refused(number) => Brought::Refused(number),
-        Interned::Node(m, d) => {
-            let grown = append_brought(words, starts, d, kind, m, items, count);
-            match grown {
-                Grown::Count(next) => Brought::Held(next, d),
-                Grown::Full => Brought::Refused(8),
-            }
-        }
-    }
+    let Interned::Node(m, d) = outcome else {
+        return Brought::Refused(outcome.refusal());
+    };
+    let grown = append_brought(words, starts, d, kind, m, items, count);
+    let Grown::Count(next) = grown else {
+        return Brought::Refused(8);
+    };
+    Brought::Held(next, d)
 }
 
 // What stands for a list of a kind, sorted: one member for itself, more as a node.

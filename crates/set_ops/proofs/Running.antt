@@ -7,12 +7,12 @@ use Rattle.types.specs.Out.{Out}
 use Rattle.types.specs.Arena.{Arena, here}
 use Rattle.types.specs.Memory.{Holds}
 use Rattle.types.specs.declared.Counters.{Counters}
-use Rattle.node_store.specs.Stored.{InRange}
+use Rattle.node_store.specs.Inner.Stored.{InRange}
 use Rattle.node_store.specs.declared.added.Interned.{Interned}
 use Rattle.recursion.specs.Jobs.{Job}
-use Rattle.recursion.specs.Work.{Grown, Leads, Ready, Does}
-use Rattle.recursion.specs.Work as work
-use Rattle.recursion.specs.Hosted.{LeadsOnce, done, stop, Works}
+use Rattle.recursion.specs.Inner.Work.{Grown, Leads, Ready, Does}
+use Rattle.recursion.specs.Inner.Work as work
+use Rattle.recursion.specs.Inner.Hosted.{LeadsOnce, done, stop, Works}
 use Rattle.recursion.proofs.Remembering.{cache-none}
 use Rattle.set_op_lists.specs.SetOps.{normalize, normalize-set-ops}
 

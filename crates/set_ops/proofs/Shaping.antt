@@ -20,25 +20,23 @@ use Rattle.node_store.proofs.Interning.{done, done-ext, done-at}
 use Rattle.recursion.specs.Jobs.{each, rebuild}
 use Rattle.recursion.proofs.Answers.{ok-same, bind-parts}
 use Rattle.recursion.proofs.Members.{index-of, member-at}
-use Rattle.recursion.proofs.Steady.{There, Finished}
+use Rattle.recursion.specs.Theorems.{There, Finished}
 use Rattle.simplification.specs.Seen.{same-tag}
 use Rattle.simplification.specs.Pass.{first-copies, list-kind}
 use Rattle.simplification.proofs.Answers.{same-tag-true, same-tag-false}
 use Rattle.simplification.proofs.Copies.{Different, copies}
 use Rattle.simplification.proofs.Applying.{list-kind-some}
 use Rattle.member_sorting.specs.Sort.{sort}
-use Rattle.member_sorting.proofs.Sorted.{Inserted, Arranged, sorted}
-use Rattle.member_sorting.proofs.Sorted as arrangement
-use Rattle.set_op_lists.specs.SetOps.{brings, flatten, stand-for, normalize, normalize-set-ops}
+use Rattle.member_sorting.specs.Theorems.{Inserted, Arranged}
+use Rattle.member_sorting.specs.Theorems as arrangement
+use Rattle.member_sorting.proofs.Sorted.{sorted}
+use Rattle.set_op_lists.specs.SetOps.{brings, flatten-set-op, stand-for, normalize, normalize-set-ops}
 use Rattle.set_op_lists.proofs.Bringing.{brings-list, brings-other}
 use Rattle.set_op_lists.proofs.Closing.{stand-for-one, stand-for-several}
+use Rattle.set_ops.specs.Theorems.{Distinct, empty, several, NeatList, Neat, neat, NormalizedNeat}
 use Rattle.set_ops_pass.proofs.Normalizing.{at-list, at-other, normalize-steady, flat-list}
 
 -- ---- lists without repeats
-pub data Distinct : List ℕ → Type 0 where
-  empty : Distinct []
-  several : {x : ℕ} {xs : List ℕ} → (Mem x xs → ⊥) → Distinct xs → Distinct (x ∷ xs)
-
 distinct : (xs : List ℕ) → Different xs → Distinct xs
 distinct [] d = empty
 distinct (x ∷ xs) d =
@@ -58,15 +56,6 @@ arranged-distinct (arrangement.one {m} h k) d (several {xs = ms} g e) f =
     arranged-distinct k (inserted-distinct h (f m (head refl)) d) e (λ x i. apart h (λ q. g (subst (λ (y : ℕ). Mem y ms) q i)) (f x (tail i)))
 
 -- ---- neat types
-pub record NeatList (a : Arena) (k : Polarity) (ms : List ℕ) : Type 0 where
-  pub two : 2 ≤ length ms
-  pub different : Distinct ms
-  pub no-own-kind : (c : ℕ) → Mem c ms → tag (at a c) ≡ members k → ⊥
-
--- every list in the type of node m is so
-pub data Neat (a : Arena) : ℕ → Type 0 where
-  neat : {m : ℕ} → ((c : ℕ) → Mem c (children (at a m)) → Neat a c) → ((k : Polarity) → tag (at a m) ≡ members k → NeatList a k (children (at a m))) → Neat a m
-
 module _ (table : ℕ) (a : Arena) (g : sound table a ≡ true) where
   child-low : {m : ℕ} → m < length a → (c : ℕ) → Mem c (children (at a m)) → c < length a
   child-low {m} l c i = let j = index-of i in omega (arith, j .is, child-lower table a g m l (j .index) (j .inside), l)
@@ -152,15 +141,15 @@ module _ (words starts table : ℕ) (few : starts ≤ 4096) (u : Arena) (g : sou
     pub all : (x : ℕ) → Mem x l → Member b k x
 
   flatten-neat : (k : Polarity) (cs : List ℕ) → ((c : ℕ) → Mem c cs → Ready c) → (acc : List ℕ) (a b : Arena) (l : List ℕ) → Ext u a → sound table a ≡ true → Different acc → ((x : ℕ) → Mem x acc → Member a k x)
-      → flatten k (normalize words starts u) acc cs a ≡ ok (l, b) → Flattened k a l b
-  unfolding flatten NeatAt
+      → flatten-set-op k (normalize words starts u) acc cs a ≡ ok (l, b) → Flattened k a l b
+  unfolding flatten-set-op NeatAt
   flatten-neat k [] h acc a b l x s D M e = subst (λ (v : List ℕ × Arena). Flattened k a (v .0) (v .1)) (ok-same e) (record { ext = here; good = s; different = D; all = M })
   flatten-neat k (c ∷ cs) h acc a b l x s D M e =
       let f = normalize words starts u in
-      let p = bind-parts (f c a) (λ r. first-copies acc (brings k (r .0) (at (r .1) (r .0))) >>= λ (l : List ℕ). flatten k f l cs (r .1)) e in
+      let p = bind-parts (f c a) (λ r. first-copies acc (brings k (r .0) (at (r .1) (r .0))) >>= λ (l : List ℕ). flatten-set-op k f l cs (r .1)) e in
       let m = p .0 .0 in
       let d = p .0 .1 in
-      let q = bind-parts (first-copies acc (brings k m (at d m))) (λ (l : List ℕ). flatten k f l cs d) (p .2) in
+      let q = bind-parts (first-copies acc (brings k m (at d m))) (λ (l : List ℕ). flatten-set-op k f l cs d) (p .2) in
       let F = step (h c (head refl)) a d m x s (p .1) in
       let N = h c (head refl) .neat a d m x s (p .1) in
       let C = copies acc (brings k m (at d m)) (q .0) (q .1) in
@@ -208,7 +197,7 @@ module _ (words starts table : ℕ) (few : starts ≤ 4096) (u : Arena) (g : sou
           (λ k t. absurd (no-list (tag (at u n)) k q (sym (ap tag y) ∙ t)))
       go (some k) q =
           let t = list-kind-some (tag (at u n)) k q in
-          let p = bind-parts (flatten k (normalize words starts u) [] (children (at u n)) a) (λ (r : List ℕ × Arena). stand-for words starts k (sort (r .1) (r .0)) (r .1)) (sym (at-list words starts table u g n l a k t) ∙ e) in
+          let p = bind-parts (flatten-set-op k (normalize words starts u) [] (children (at u n)) a) (λ (r : List ℕ × Arena). stand-for words starts k (sort (r .1) (r .0)) (r .1)) (sym (at-list words starts table u g n l a k t) ∙ e) in
           let F = flatten-neat k (children (at u n)) h [] a (p .0 .1) (p .0 .0) x s (λ i j z y. absurd (not-suc-le-zero y)) (λ y i. absurd (not-nil i)) (p .1) in
           let L = flat-list words starts table few u g n l k t .is a (p .0 .1) (p .0 .0) x s (p .1) in
           close-neat k a (p .0 .0) (p .0 .1) F (L .inside .some (omega arith)) m b (p .2)
@@ -222,6 +211,6 @@ module _ (words starts table : ℕ) (few : starts ≤ 4096) (u : Arena) (g : sou
       record { low = omega (arith, z, j .is, l); neat = below-neat most c (omega (arith, z, j .is, k)) (omega (arith, z, j .is, l)) })
 
 -- the type that `normalize_set_ops` gives is neat
-pub normalized-neat : (words starts table : ℕ) → starts ≤ 4096 → (a : Arena) → sound table a ≡ true → (root : ℕ) → root < length a → (m : ℕ) (b : Arena) → normalize-set-ops words starts root a ≡ ok (m, b) → Neat b m
+pub normalized-neat : NormalizedNeat
 unfolding normalize-set-ops NeatAt
 normalized-neat words starts table few a g root l m b e = below-neat words starts table few a g (suc root) root (omega arith) l a b m here g e

@@ -7,9 +7,10 @@ use soundness::judge;
 use types::Counters;
 use types::arc_ty::wide;
 ghost use mathlib.Core.Path.{_≡_};
-ghost use Rattle.node_store.specs.Stored.{Lent, InRange};
+ghost use Rattle.node_store.specs.Inner.Stored.{Lent, InRange};
 ghost use Rattle.node_store.specs.Intern.{left};
-ghost use Rattle.recursion.specs.Hosted.{work-reply, Works, WorksLent};
+ghost use Rattle.recursion.specs.Hosted.{work-reply};
+ghost use Rattle.recursion.specs.Inner.Hosted.{Works, WorksLent};
 ghost use Rattle.set_op_lists.specs.SetOps.{normalize-set-ops};
 
 // In an arena that is known to be sound and has the root. A refusal leaves the nodes that were added.

@@ -16,22 +16,22 @@ use Rattle.types.specs.declared.Counters.{Counters}
 use Rattle.types.proofs.Growth.{ext-length, ext-trans, ext-at}
 use Rattle.types.proofs.Memories.{unique}
 use Rattle.types.proofs.Sound.{sound-ext, child-lower}
-use Rattle.node_store.specs.Stored.{InRange}
+use Rattle.node_store.specs.Inner.Stored.{InRange}
 use Rattle.node_store.specs.declared.added.Interned.{Interned}
 use Rattle.node_store.specs.declared.added.Interned.the-variants as interned
 use Rattle.node_store.proofs.Interning.{done-ext}
 use Rattle.node_store.proofs.Interning as interning
 use Rattle.recursion.specs.Jobs.{Job}
-use Rattle.recursion.specs.Cache.{Cache}
-use Rattle.recursion.specs.Work.{Grown, Leads, done, stop, Ready, Does}
+use Rattle.recursion.specs.Inner.Cache.{Cache}
+use Rattle.recursion.specs.Inner.Work.{Grown, Leads, done, stop, Ready, Does}
 use Rattle.recursion.proofs.Answers.{ok-same}
 use Rattle.recursion.proofs.Leading.{holds-stands, stands-ext, leads-done, Stopped, stop-leads, reply-leads}
 use Rattle.simplification.specs.Pass.{first-copies}
-use Rattle.member_lists.specs.Members.{Room, Filled}
+use Rattle.member_lists.specs.Inner.Members.{Room, Filled}
 use Rattle.member_lists.proofs.Copying.{room-length}
 use Rattle.member_sorting.specs.Sort.{sort}
-use Rattle.set_op_lists.specs.SetOps.{brings, flatten, stand-for, normalize}
-use Rattle.set_op_lists.specs.Lists.{brought-out, Bringing, Brings, StandsFor}
+use Rattle.set_op_lists.specs.SetOps.{brings, flatten-set-op, stand-for, normalize}
+use Rattle.set_op_lists.specs.Inner.{brought-out, Bringing, Brings, StandsFor}
 use Rattle.set_op_lists.specs.declared.Brought.{Brought}
 use Rattle.set_op_lists.specs.declared.Brought.the-variants as brought
 use Rattle.set_op_lists.proofs.Closing.{stand-for-one, stand-for-several}
@@ -83,7 +83,7 @@ pub record FlatIn (table : ℕ) (a : Arena) (f : ℕ → Job) (size : ℕ) (k : 
   pub holds : Holds table w s last arena
   pub ext : Ext a arena
   pub cache : Cache f size arena entries
-  pub same : flatten k f [] cs a ≡ flatten k f (take held items) (drop i cs) arena
+  pub same : flatten-set-op k f [] cs a ≡ flatten-set-op k f (take held items) (drop i cs) arena
 
 pub record FlatTurn (w₀ s₀ : List ℕ) (c₀ : Counters) (n number : ℕ) (entries₀ : List ℕ) (total : ℕ) (w s entries items : List ℕ) (held : ℕ) (last : Counters) (i : ℕ) : Type 0 where
   pub ready : ListReady w₀ s₀ c₀ n number entries₀
@@ -198,16 +198,16 @@ module _ {w₀ s₀ : List ℕ} {c₀ : Counters} {n number : ℕ} {entries₀ :
               (D .is table u (I .arena) (I .holds) (ext-trans E (I .ext)) (omega (arith, lower, l)) (moved u (I .cache)))
 
           rest : List ℕ → Arena → Out (List ℕ × Arena)
-          rest l = flatten (T .ready .side) f l (drop (suc i) (children (at u n)))
+          rest l = flatten-set-op (T .ready .side) f l (drop (suc i) (children (at u n)))
 
-          next : flatten (T .ready .side) f [] (children (at u n)) a ≡ brings-then (T .ready .side) (take held items) rest (f x (I .arena))
-          unfolding flatten rest
+          next : flatten-set-op (T .ready .side) f [] (children (at u n)) a ≡ brings-then (T .ready .side) (take held items) rest (f x (I .arena))
+          unfolding flatten-set-op rest
           next =
               let cs = children (at u n) in
               let j : i < length cs = omega (arith, h, total-is H E l) in
-              I .same ∙ ap (λ (y : List ℕ). flatten (T .ready .side) f (take held items) y (I .arena)) (drop-cons cs i 0 j ∙ ap (λ (y : ℕ). y ∷ drop (suc i) cs) (sym (member-is H E l C)))
+              I .same ∙ ap (λ (y : List ℕ). flatten-set-op (T .ready .side) f (take held items) y (I .arena)) (drop-cons cs i 0 j ∙ ap (λ (y : ℕ). y ∷ drop (suc i) cs) (sym (member-is H E l C)))
 
-          whole : normalize (length w₀) (length s₀) u n a ≡ (flatten (T .ready .side) f [] (children (at u n)) a >>= λ (q : List ℕ × Arena). stand-for (length w₀) (length s₀) (T .ready .side) (sort (q .1) (q .0)) (q .1))
+          whole : normalize (length w₀) (length s₀) u n a ≡ (flatten-set-op (T .ready .side) f [] (children (at u n)) a >>= λ (q : List ℕ × Arena). stand-for (length w₀) (length s₀) (T .ready .side) (sort (q .1) (q .0)) (q .1))
           unfolding f
           whole = at-list (length w₀) (length s₀) table u (sound-ext table E (H .good)) n l a (T .ready .side) (tag-in H E l)
 
@@ -238,7 +238,7 @@ module _ {w₀ s₀ : List ℕ} {c₀ : Counters} {n number : ℕ} {entries₀ :
                 holds = X .holds;
                 ext = ext-trans (I H E l C .ext) (X .ext);
                 cache = X .cache;
-                same = next H E l C ∙ X .is ∙ ap (λ (j : ℕ). flatten (T .ready .side) (normalize (length w₀) (length s₀) u) (take m items′) (drop j (children (at u n))) (X .arena)) (sym (add-one i));
+                same = next H E l C ∙ X .is ∙ ap (λ (j : ℕ). flatten-set-op (T .ready .side) (normalize (length w₀) (length s₀) u) (take m items′) (drop j (children (at u n))) (X .arena)) (sym (add-one i));
               };
         }
 
@@ -248,11 +248,11 @@ module _ {w₀ s₀ : List ℕ} {c₀ : Counters} {n number : ℕ} {entries₀ :
       J : FlatIn table a (normalize (length w₀) (length s₀) u) (length u) (T .ready .side) (children (at u n)) w s entries items held last i
       J = T .there table u a H E l C
 
-      made : flatten (T .ready .side) (normalize (length w₀) (length s₀) u) [] (children (at u n)) a ≡ ok (take held items, J .arena)
-      unfolding flatten J
+      made : flatten-set-op (T .ready .side) (normalize (length w₀) (length s₀) u) [] (children (at u n)) a ≡ ok (take held items, J .arena)
+      unfolding flatten-set-op J
       made =
           let none : drop i (children (at u n)) ≡ [] = drop-of-length-le (children (at u n)) {i = i} (omega (arith, h, total-is H E l)) in
-          J .same ∙ ap (λ (y : List ℕ). flatten (T .ready .side) (normalize (length w₀) (length s₀) u) (take held items) y (J .arena)) none
+          J .same ∙ ap (λ (y : List ℕ). flatten-set-op (T .ready .side) (normalize (length w₀) (length s₀) u) (take held items) y (J .arena)) none
 
       flat : Flat 1 (take held items) (J .arena)
       unfolding J

@@ -18,10 +18,11 @@ use Rattle.types.proofs.Growth.{ext-tail, ext-length, ext-at, ext-rec, before, 
 use Rattle.types.proofs.Sound.{child-lower}
 use Rattle.node_store.specs.Intern.{intern}
 use Rattle.recursion.specs.Jobs.{Job, rebuild}
-use Rattle.recursion.specs.Work.{Grown}
+use Rattle.recursion.specs.Inner.Work.{Grown}
 use Rattle.recursion.proofs.Answers.{rebuild-same}
 use Rattle.recursion.proofs.Members.{index-of, member-at, member-below}
-use Rattle.recursion.proofs.Steady.{Steady, There, steady-later, steady-as, refusal-steady, answer-steady, then-steady, intern-steady, rebuild-steady, step-well, step-child, rec-steady}
+use Rattle.recursion.specs.Theorems.{Steady, There}
+use Rattle.recursion.proofs.Steady.{steady-later, steady-as, refusal-steady, answer-steady, then-steady, intern-steady, rebuild-steady, step-well, step-child, rec-steady}
 use Rattle.recursion.proofs.Leading.{Lawful, grown-lawful}
 use Rattle.simplification.specs.Seen.{same-tag}
 use Rattle.simplification.specs.Pass.{first-copies, list-kind}
@@ -31,7 +32,7 @@ use Rattle.simplification.proofs.Rebuilding.{formed-list, has-member, list-well
 use Rattle.simplification.proofs.Applying.{list-kind-some}
 use Rattle.member_sorting.specs.Sort.{sort}
 use Rattle.member_sorting.proofs.Sorted.{sorted, sort-kept, sort-below}
-use Rattle.set_op_lists.specs.SetOps.{brings, flatten, stand-for, set-ops-step, normalize}
+use Rattle.set_op_lists.specs.SetOps.{brings, flatten-set-op, stand-for, set-ops-step, normalize}
 use Rattle.set_op_lists.proofs.Bringing.{brings-list, brings-other}
 use Rattle.set_op_lists.proofs.Closing.{stand-for-one, stand-for-several}
 
@@ -80,24 +81,24 @@ flat-more table a g k m h least acc l low few e =
 module _ (table : ℕ) (k : Polarity) (f : ℕ → Job) where
   -- what follows the member m, normalized
   follow : List ℕ → List ℕ → ℕ → Arena → Out (List ℕ × Arena)
-  follow acc cs m a = first-copies acc (brings k m (at a m)) >>= λ (l : List ℕ). flatten k f l cs a
+  follow acc cs m a = first-copies acc (brings k m (at a m)) >>= λ (l : List ℕ). flatten-set-op k f l cs a
 
-  pub flatten-steady : (least : ℕ) (acc cs : List ℕ) (start : Arena) → below (length start) acc ≡ true → length acc ≤ 64 → (0 < least → 0 < length acc + length cs) → ((c : ℕ) → Mem c cs → Steady table start There (f c)) → Steady table start (Flat least) (flatten k f acc cs)
-  unfolding flatten follow
+  pub flatten-steady : (least : ℕ) (acc cs : List ℕ) (start : Arena) → below (length start) acc ≡ true → length acc ≤ 64 → (0 < least → 0 < length acc + length cs) → ((c : ℕ) → Mem c cs → Steady table start There (f c)) → Steady table start (Flat least) (flatten-set-op k f acc cs)
+  unfolding flatten-set-op follow
   flatten-steady least acc [] start low few p h =
       answer-steady start acc (λ a e. flat-later e (record { low = low; few = few; some = λ z. let q = p z in omega (arith, q) }))
   flatten-steady least acc (c ∷ cs) start low few p h =
       then-steady (f c) (follow acc cs) (h c (head refl))
       (λ m a e g l. go m a e g l (first-copies acc (brings k m (at a m))) refl (λ x. flatten-steady least x cs a))
     where
-      kept : (m : ℕ) (a : Arena) → m < length a → {o : Out (List ℕ)} → first-copies acc (brings k m (at a m)) ≡ o → (b : Arena) → Ext a b → follow acc cs m b ≡ (o >>= λ (l : List ℕ). flatten k f l cs b)
-      kept m a l q b x = ap (λ (o : Out (List ℕ)). o >>= λ (l : List ℕ). flatten k f l cs b) (ap (λ (y : Node). first-copies acc (brings k m y)) (ext-at a b x m l) ∙ q)
+      kept : (m : ℕ) (a : Arena) → m < length a → {o : Out (List ℕ)} → first-copies acc (brings k m (at a m)) ≡ o → (b : Arena) → Ext a b → follow acc cs m b ≡ (o >>= λ (l : List ℕ). flatten-set-op k f l cs b)
+      kept m a l q b x = ap (λ (o : Out (List ℕ)). o >>= λ (l : List ℕ). flatten-set-op k f l cs b) (ap (λ (y : Node). first-copies acc (brings k m y)) (ext-at a b x m l) ∙ q)
 
       go : (m : ℕ) (a : Arena) → Ext start a → sound table a ≡ true → m < length a → (o : Out (List ℕ)) → first-copies acc (brings k m (at a m)) ≡ o
-          → ((x : List ℕ) → below (length a) x ≡ true → length x ≤ 64 → (0 < least → 0 < length x + length cs) → ((d : ℕ) → Mem d cs → Steady table a There (f d)) → Steady table a (Flat least) (flatten k f x cs)) → Steady table a (Flat least) (follow acc cs m)
+          → ((x : List ℕ) → below (length a) x ≡ true → length x ≤ 64 → (0 < least → 0 < length x + length cs) → ((d : ℕ) → Mem d cs → Steady table a There (f d)) → Steady table a (Flat least) (flatten-set-op k f x cs)) → Steady table a (Flat least) (follow acc cs m)
       go m a e g l (ok x) q ih =
           let F = flat-more table a g k m l 0 acc x (below-more (length start) (length a) acc (ext-length start a e) low) few q in
-          steady-as (follow acc cs m) (flatten k f x cs) (kept m a l q) (ih x (F .low) (F .few) (λ z. let p = F .some (omega arith) in omega (arith, p)) (λ d i. steady-later e (h d (tail i))))
+          steady-as (follow acc cs m) (flatten-set-op k f x cs) (kept m a l q) (ih x (F .low) (F .few) (λ z. let p = F .some (omega arith) in omega (arith, p)) (λ d i. steady-later e (h d (tail i))))
       go m a e g l (refuse n) q ih = steady-as (follow acc cs m) (λ (b : Arena). refuse n) (kept m a l q) (refusal-steady n)
 
 -- ---- what stands for it
@@ -132,12 +133,12 @@ module _ (words starts : ℕ) where
   step-other s x f a e = rw (set-ops-step, e)
 
   step-list : (s : Arena) (x : Node) (f : ℕ → Job) (a : Arena) (k : Polarity) → list-kind (tag x) ≡ some k
-      → set-ops-step words starts s x f a ≡ (flatten k f [] (children x) a >>= λ (r : List ℕ × Arena). stand-for words starts k (sort (r .1) (r .0)) (r .1))
+      → set-ops-step words starts s x f a ≡ (flatten-set-op k f [] (children x) a >>= λ (r : List ℕ × Arena). stand-for words starts k (sort (r .1) (r .0)) (r .1))
   unfolding set-ops-step
   step-list s x f a k e = rw (set-ops-step, e)
 
-  flatten-same : (k : Polarity) (f g : ℕ → Job) (acc cs : List ℕ) → ((c : ℕ) → Mem c cs → f c ≡ g c) → (a : Arena) → flatten k f acc cs a ≡ flatten k g acc cs a
-  unfolding flatten
+  flatten-same : (k : Polarity) (f g : ℕ → Job) (acc cs : List ℕ) → ((c : ℕ) → Mem c cs → f c ≡ g c) → (a : Arena) → flatten-set-op k f acc cs a ≡ flatten-set-op k g acc cs a
+  unfolding flatten-set-op
   flatten-same k f g acc [] h a = refl
   flatten-same k f g acc (c ∷ cs) h a = λ i. h c (head refl) i a >>= λ r. first-copies acc (brings k (r .0) (at (r .1) (r .0))) >>= λ (l : List ℕ). flatten-same k f g l cs (λ d j. h d (tail j)) (r .1) i
 
@@ -159,7 +160,7 @@ module _ (words starts : ℕ) where
         let f = normalize words starts (before u n l .older) in
         at-step ∙ step-other (before u n l .older) (at u n) f b e ∙ rebuild-same words starts (tag (at u n)) f (normalize words starts u) (children (at u n)) jobs b
 
-    pub at-list : (k : Polarity) → tag (at u n) ≡ members k → normalize words starts u n b ≡ (flatten k (normalize words starts u) [] (children (at u n)) b >>= λ (r : List ℕ × Arena). stand-for words starts k (sort (r .1) (r .0)) (r .1))
+    pub at-list : (k : Polarity) → tag (at u n) ≡ members k → normalize words starts u n b ≡ (flatten-set-op k (normalize words starts u) [] (children (at u n)) b >>= λ (r : List ℕ × Arena). stand-for words starts k (sort (r .1) (r .0)) (r .1))
     at-list k e =
         let f = normalize words starts (before u n l .older) in
         at-step ∙ step-list (before u n l .older) (at u n) f b k (ap list-kind e)
@@ -180,8 +181,8 @@ module _ (words starts : ℕ) where
             (rebuild-steady words starts table few (x ∷ s) (length s) (tag x) (children x) f (step-well table x s g) child)
         go (some k) e =
             let w = subst (λ (t : Tag). formed (node t (children x)) ≡ true) (list-kind-some (tag x) k e) (well-parts table (length s) (node (tag x) (children x)) (step-well table x s g) .formed-so) in
-            steady-as (set-ops-step words starts s x f) (λ (b : Arena). flatten k f [] (children x) b >>= λ (r : List ℕ × Arena). stand-for words starts k (sort (r .1) (r .0)) (r .1)) (λ b y. step-list s x f b k e)
-            (then-steady (flatten k f [] (children x)) (λ (l : List ℕ) (b : Arena). stand-for words starts k (sort b l) b) (flatten-steady table k f 1 [] (children x) (x ∷ s) refl (omega arith) (λ _. let q = formed-list k (children x) w in omega (arith, q)) child)
+            steady-as (set-ops-step words starts s x f) (λ (b : Arena). flatten-set-op k f [] (children x) b >>= λ (r : List ℕ × Arena). stand-for words starts k (sort (r .1) (r .0)) (r .1)) (λ b y. step-list s x f b k e)
+            (then-steady (flatten-set-op k f [] (children x)) (λ (l : List ℕ) (b : Arena). stand-for words starts k (sort b l) b) (flatten-steady table k f 1 [] (children x) (x ∷ s) refl (omega arith) (λ _. let q = formed-list k (children x) w in omega (arith, q)) child)
             (λ l a y q F. closed-steady words starts table few k l a F))
 
     pub normalize-steady : (u : Arena) → sound table u ≡ true → (n : ℕ) → n < length u → Steady table u There (normalize words starts u n)
@@ -189,7 +190,7 @@ module _ (words starts : ℕ) where
     normalize-steady u g n l = rec-steady table (λ (v : Job) (i : Unit {0}). v) (set-ops-step words starts) (λ a. refuse 6) (λ (s : Arena). s) (λ x s. more x here) step-steady u g n l tt
 
     -- the list that the members of node n make
-    pub flat-list : (u : Arena) → sound table u ≡ true → (n : ℕ) → n < length u → (k : Polarity) → tag (at u n) ≡ members k → Steady table u (Flat 1) (flatten k (normalize words starts u) [] (children (at u n)))
+    pub flat-list : (u : Arena) → sound table u ≡ true → (n : ℕ) → n < length u → (k : Polarity) → tag (at u n) ≡ members k → Steady table u (Flat 1) (flatten-set-op k (normalize words starts u) [] (children (at u n)))
     unfolding below
     flat-list u g n l k e =
         flatten-steady table k (normalize words starts u) 1 [] (children (at u n)) u refl (omega arith) (λ _. let q = has-member table u g n l k e in omega (arith, q))

@@ -7,6 +7,7 @@ use native.Mathlib.Omega.{arith}
 use lib.ListN.{length, getD, take}
 use lib.Seq.{length-take-le}
 use lib.Dec.{eqb}
+use Rattle.words.specs.Words.{child}
 use Rattle.types.specs.Kind.{disc}
 use Rattle.types.specs.Node.{Tag, Node, node, tag, kind, children, encode, below}
 use Rattle.types.specs.Arena.{Arena, at}
@@ -17,16 +18,18 @@ use Rattle.types.specs.declared.Counters.{Counters}
 use Rattle.types.proofs.Faults.{children-encode}
 use Rattle.types.proofs.Growth.{ext-length, ext-at}
 use Rattle.types.proofs.Sound.{sound-ext, at-formed, children-below}
-use Rattle.node_store.specs.Stored.{InRange, NodeAt}
+use Rattle.node_store.specs.Inner.Stored.{InRange, NodeAt}
 use Rattle.node_store.specs.Intern.{intern}
 use Rattle.node_store.specs.declared.added.Interned.{Interned}
 use Rattle.node_store.specs.declared.added.Interned.the-variants as interned
-use Rattle.node_reading.specs.Nodes.{KindAt}
+use Rattle.node_reading.specs.Nodes.{ChildWords}
+use Rattle.node_reading.specs.Inner.{KindAt}
+use Rattle.node_reading.proofs.Offspring.{as-many, child-is}
 use Rattle.member_lists.proofs.BoundKinds.{list-tag, other-tag}
-use Rattle.rebuilding.specs.Children.{AllChildren}
-use Rattle.rebuilding.specs.Rebuilt.{Rebuilding, Rebuilds}
+use Rattle.rebuilding.specs.Inner.Children.{AllChildren}
+use Rattle.rebuilding.specs.Inner.Rebuilt.{Rebuilding, Rebuilds}
 use Rattle.rebuilding.specs.declared.children.Children.{Children}
-use Rattle.recursion.specs.Work.{Grown, Ready, Does, EachReady, DoesEach}
+use Rattle.recursion.specs.Inner.Work.{Grown, Ready, Does, EachReady, DoesEach}
 use Rattle.recursion.specs.declared.Run.{Run}
 use Rattle.recursion.specs.declared.Run.the-variants as run
 use Rattle.recursion.proofs.Leading.{each-done}
@@ -39,24 +42,24 @@ use Rattle.set_ops_pass.proofs.Normalizing.{at-other, lawful}
 pub range-wide : {w s : List ℕ} {c : Counters} {n x : ℕ} → x ≡ n → InRange w s c n → InRange w s c x
 range-wide {w} {s} {c} e R = subst (InRange w s c) (sym e) R
 
-module _ {w s : List ℕ} {c : Counters} {n x : ℕ} (R : InRange w s c n) (e : x ≡ n) {ws : List ℕ} (N : NodeAt w s c x ws) where
+module _ {w s : List ℕ} {c : Counters} {n x : ℕ} (R : InRange w s c n) (e : x ≡ n) {ws b : List ℕ} (N : NodeAt w s c x ws) (B : ChildWords ws b) where
   read : (table : ℕ) (a : Arena) → Holds table w s c a → children-in ws ≡ children (at a n)
   read table a H = ap children-in (N .is table a H ∙ ap (λ (y : ℕ). encode (at a y)) e) ∙ children-encode (at a n) (at-formed table a (H .good) n (omega (arith, R .inside, H .nodes)))
 
-  pub members-counted : {r : ℕ} → r ≡ length (children-in ws) → MemberCount w s c n r
-  members-counted q = record { is = λ table a H. q ∙ ap length (read table a H) }
+  pub members-counted : MemberCount w s c n (length b)
+  members-counted = record { is = λ table a H. as-many B ∙ ap length (read table a H) }
 
-  pub member-read : {i r : ℕ} → r ≡ getD (children-in ws) i 0 → MemberAt w s c n i r
-  member-read {i} q = record { is = λ table a H. q ∙ ap (λ (y : List ℕ). getD y i 0) (read table a H) }
+  member-read : (i : ℕ) {r : ℕ} → r ≡ child (getD b i 0) → MemberAt w s c n i r
+  member-read i q = record { is = λ table a H. child-is B i q ∙ ap (λ (y : List ℕ). getD y i 0) (read table a H) }
 
 pub member-range : {w s : List ℕ} {c : Counters} {n i x : ℕ} → MemberThere w s c n i → x ≡ n → InRange w s c x
 member-range M e = range-wide e (M .range)
 
-pub member-inside : {w s : List ℕ} {c : Counters} {n i x : ℕ} → MemberThere w s c n i → x ≡ n → {ws : List ℕ} → NodeAt w s c x ws → i < length (children-in ws)
-member-inside {i = i} M e N = let L = M .range .lent in omega (arith, M .inside, ap length (read (M .range) e N (L .table) (L .view) (L .holds)))
+pub member-inside : {w s : List ℕ} {c : Counters} {n i x : ℕ} → MemberThere w s c n i → x ≡ n → {ws b : List ℕ} → NodeAt w s c x ws → ChildWords ws b → i < length b
+member-inside M e N B = let L = M .range .lent in omega (arith, M .inside, as-many B, ap length (read (M .range) e N B (L .table) (L .view) (L .holds)))
 
-pub member-is : {w s : List ℕ} {c : Counters} {n i x : ℕ} → MemberThere w s c n i → x ≡ n → {ws : List ℕ} → NodeAt w s c x ws → {r : ℕ} → r ≡ getD (children-in ws) i 0 → MemberAt w s c n i r
-member-is M e N q = member-read (M .range) e N q
+pub member-is : {w s : List ℕ} {c : Counters} {n i x : ℕ} → MemberThere w s c n i → x ≡ n → {ws b : List ℕ} → NodeAt w s c x ws → ChildWords ws b → {r : ℕ} → r ≡ child (getD b i 0) → MemberAt w s c n i r
+member-is {i = i} M e N B q = member-read (M .range) e N B i q
 
 interns-as : {w s : List ℕ} {c : Counters} {n : ℕ} {items : List ℕ} {count : ℕ} {w′ s′ : List ℕ} {r : Interned} → Rebuilds w s c n items count w′ s′ r → InternsAs Grown w s c n items count w′ s′ r
 interns-as {w} {s} {c} {n} {items} {count} R = record {

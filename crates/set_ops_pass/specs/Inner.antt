@@ -1,4 +1,4 @@
--- What the functions of the recursion ask and answer, besides what every recursion does (`Work` in `recursion`).
+-- What the functions of the recursion ask and answer, besides what every recursion does (`Inner.Work` in `recursion`).
 use Prim.Native.Nat.{ℕ, _<_}
 use mathlib.Core.Path.{_≡_}
 use mathlib.Core.List.{List}
@@ -8,8 +8,8 @@ use Rattle.types.specs.Node.{Polarity, members, tag, kind, children}
 use Rattle.types.specs.Arena.{Arena, at}
 use Rattle.types.specs.Memory.{Holds}
 use Rattle.types.specs.declared.Counters.{Counters}
-use Rattle.node_store.specs.Stored.{InRange}
-use Rattle.recursion.specs.Work.{Ready, Grown}
+use Rattle.node_store.specs.Inner.Stored.{InRange}
+use Rattle.recursion.specs.Inner.Work.{Ready, Grown}
 use Rattle.set_op_lists.specs.SetOps.{normalize}
 
 -- node n is a member list of the kind with this number

@@ -1,7 +1,7 @@
 // The recursion of `normalize_set_ops`: a member list is flattened and sorted, any other node is rebuilt from what its children
 // become. A refusal is passed up, and memory then begins with the arena as it was.
-use node_reading::children::child_at;
-use node_reading::children::child_count;
+use member_lists::Members;
+use node_reading::children::child_words;
 use node_reading::nodes::kind_at;
 use node_store::added::Interned;
 use node_store::stored::node_at;
@@ -16,9 +16,10 @@ use set_op_lists::bring;
 use set_op_lists::close_list;
 use types::Counters;
 use types::arc_ty::Head;
+use types::arc_ty::child;
 use types::arc_ty::wide;
-ghost use Rattle.node_store.specs.Stored.{InRange};
-ghost use Rattle.recursion.specs.Work.{Grown, Ready, Does, EachReady, DoesEach};
+ghost use Rattle.node_store.specs.Inner.Stored.{InRange};
+ghost use Rattle.recursion.specs.Inner.Work.{Grown, Ready, Does, EachReady, DoesEach};
 ghost use Rattle.set_op_lists.specs.SetOps.{normalize};
 ghost use Rattle.set_ops_pass.specs.Inner.{ListReady, MemberCount, MemberThere, MemberAt};
 
@@ -27,7 +28,7 @@ fn member_count(words: &[u32], starts: &[u32], c: Counters, n: u32) -> usize
     requires { ⌜ InRange (now words) (now starts) c n ⌝ }
     ensures { λ r. ⌜ MemberCount (now (words .entry)) (now (starts .entry)) c n r ⌝ }
 {
-    child_count(node_at(words, starts, c, wide(n)))
+    child_words(node_at(words, starts, c, wide(n))).len()
 }
 
 // Member i of the list n. It is read when its turn comes: the words of a node stay as they are while others are added.
@@ -35,7 +36,8 @@ fn member_at(words: &[u32], starts: &[u32], c: Counters, n: u32, i: usize) -> u3
     requires { ⌜ MemberThere (now words) (now starts) c n i ⌝ }
     ensures { λ r. ⌜ MemberAt (now (words .entry)) (now (starts .entry)) c n i r ⌝ }
 {
-    child_at(node_at(words, starts, c, wide(n)), i)
+    let body = child_words(node_at(words, starts, c, wide(n)));
+    child(body[i])
 }
 
 // What node n becomes, remembered.
@@ -81,10 +83,10 @@ fn normalize_set_ops_uncached(
     let mut list = all_children(words, starts, c, n);
     let count = list.count;
     let r = normalize_each(words, starts, c, n, &mut list.items, count, cache);
-    match r {
-        Run::Went(d) => rebuild(words, starts, d, n, &list.items, count),
-        Run::Refused(number) => Interned::Refused(number),
-    }
+    let Run::Went(d) = r else {
+        return Interned::Refused(r.refusal());
+    };
+    rebuild(words, starts, d, n, &list.items, count)
 }
 
 // A member list: what each member brings is appended before the next is normalized.
@@ -101,26 +103,26 @@ fn flatten_set_op_cached(
         (now (starts .exit)) (now (cache .exit)) r ⌝ }
 {
     let total = member_count(words, starts, c, n);
-    let mut items = [0u32; 64];
-    let mut held = 0;
+    let mut list = Members {
+        items: [0u32; 64],
+        count: 0,
+    };
     let mut last = c;
     let mut i = 0;
     while i < total {
         let member = member_at(words, starts, last, n, i);
         let r = normalize_set_ops_cached(words, starts, last, member, cache);
-        let b = bring(words, starts, r, kind, &mut items, held);
-        match b {
-            Brought::Refused(number) => {
-                return Interned::Refused(number);
-            }
-            Brought::Held(next, d) => {
-                held = next;
-                last = d;
-            }
-        }
+        let held = list.count;
+        let b = bring(words, starts, r, kind, &mut list.items, held);
+        let Brought::Held(next, d) = b else {
+            return Interned::Refused(b.refusal());
+        };
+        list.count = next;
+        last = d;
         i += 1;
     }
-    close_list(words, starts, last, kind, &items, held)
+    let held = list.count;
+    close_list(words, starts, last, kind, &list.items, held)
 }
 
 // What each of the first `count` items becomes, in its place; all are below n.
@@ -142,15 +144,11 @@ fn normalize_each(
     while i < count {
         let item = item_at(items, i);
         let r = normalize_set_ops_cached(words, starts, last, item, cache);
-        match r {
-            Interned::Refused(number) => {
-                return Run::Refused(number);
-            }
-            Interned::Node(m, d) => {
-                items[i] = m;
-                last = d;
-            }
-        }
+        let Interned::Node(m, d) = r else {
+            return Run::Refused(r.refusal());
+        };
+        items[i] = m;
+        last = d;
         i += 1;
     }
     Run::Went(last)

@@ -10,19 +10,20 @@ use Rattle.types.specs.declared.Counters.{Counters}
 use Rattle.types.proofs.Addresses.{start-room}
 use Rattle.names.specs.Table.{IsTable}
 use Rattle.names.proofs.Tables.{split-is}
-use Rattle.node_store.specs.Stored.{InRange}
+use Rattle.node_store.specs.Inner.Stored.{InRange}
 use Rattle.simplification.specs.Passes.{Result, simplify}
-use Rattle.simplify.specs.Simplify.{Simplifies}
+use Rattle.simplify.specs.Inner.{Simplifies}
 use Rattle.simplify.specs.declared.Simplified.{Simplified}
 use Rattle.simplify.specs.declared.Simplified.the-variants as simplified
 use Rattle.simplify.proofs.Hosts.{Finished, finished, stopped}
 use Rattle.text_writing.specs.Text.{type-text}
-use Rattle.display.specs.Reply.{displaying, left, Displays}
+use Rattle.display.specs.Reply.{displaying, left}
+use Rattle.display.specs.Inner.{Displays}
 use Rattle.display.specs.declared.Displayed.{Displayed}
 use Rattle.display.specs.declared.Displayed.the-variants as displayed
 use Rattle.sheet_reading.specs.Sheet.{Sheet}
 use Rattle.sheet_format.specs.Line.{limited, printed, sheet-type}
-use Rattle.sheet_format.specs.Answers.{Gives, type, refused, SheetIn, AnswersType}
+use Rattle.sheet_format.specs.Inner.{Gives, type, refused, SheetIn, AnswersType}
 use Rattle.sheet_format.specs.declared.Answer.the-variants as answer
 use Rattle.sheet_format.proofs.Counting.{few-passes}
 use Rattle.sheet_format.proofs.Texts.{text-fits, text-over}

@@ -5,11 +5,12 @@ use mathlib.Core.List.{List, []}
 use native.Mathlib.Omega.{arith}
 use lib.ListN.{length, length-append}
 use Rattle.types.specs.Decimal.{decimal}
-use Rattle.types.specs.Short.{short-text, text, appended, Room}
+use Rattle.types.specs.Short.{short-text}
+use Rattle.types.specs.Inner.{text, appended, Room}
 use Rattle.types.specs.declared.short_text.ShortText.{ShortText}
 use Rattle.types.proofs.Decimals.{decimal-length}
 use Rattle.types.proofs.Shorts.{text-short, appended-short, room-of}
-use Rattle.text_writing.specs.Writes.{Writes}
+use Rattle.text_writing.specs.Inner.Writes.{Writes}
 
 pub few-digits : (n : ℕ) → n < 2 ^ 32 → length (decimal n) ≤ 10
 few-digits n h = decimal-length 9 n (omega arith)

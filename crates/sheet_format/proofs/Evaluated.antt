@@ -1,11 +1,10 @@
 -- Every worked sheet has the line that its list says, by evaluation.
-use mathlib.Core.Path.{_≡_, refl}
-use mathlib.Core.List.{map}
+use mathlib.Core.Path.{refl}
 use Rattle.words.specs.Words.{head-word}
 use Rattle.types.specs.Node.{child-words, head-of}
 use Rattle.sheet_format.specs.Line.{sheet-line}
-use Rattle.sheet_format.specs.Worked.{Case, worked}
+use Rattle.sheet_format.specs.Theorems.{WorkedSo}
 
-pub worked-so : map (λ (c : Case). sheet-line (c .sheet)) worked ≡ map (λ (c : Case). c .line) worked
+pub worked-so : WorkedSo
 unfolding sheet-line child-words head-of head-word
 worked-so = refl

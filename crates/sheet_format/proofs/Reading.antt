@@ -9,11 +9,11 @@ use Rattle.types.specs.Memory.{Holds}
 use Rattle.types.specs.declared.Counters.{Counters}
 use Rattle.names.specs.Table.{IsTable}
 use Rattle.sheet_reading.specs.Sheet.{Sheet, read-sheet}
-use Rattle.sheet_reading.specs.Reading.{Says, sheet, refused as not-read, ReadsSheet}
+use Rattle.sheet_reading.specs.Inner.Reading.{Says, sheet, refused as not-read, ReadsSheet}
 use Rattle.sheet_reading.specs.declared.Reading.{Reading}
 use Rattle.sheet_reading.specs.declared.Reading.the-variants as reading
 use Rattle.sheet_format.specs.Line.{sheet-type, sheet-answer}
-use Rattle.sheet_format.specs.Answers.{Gives, refused, SheetIn, AnswersType, Empty, AnswersSheet}
+use Rattle.sheet_format.specs.Inner.{Gives, refused, SheetIn, AnswersType, Empty, AnswersSheet}
 use Rattle.sheet_format.specs.declared.Answer.{Answer}
 use Rattle.sheet_format.specs.declared.Answer.the-variants as answer
 

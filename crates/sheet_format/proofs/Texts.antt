@@ -19,7 +19,7 @@ unfolding limited
 limited-is x e = rw (e, limited)
 
 -- the first n bytes are the text x, which is within the limit
-pub record Fits (text x : List ℕ) (n : ℕ) : Type 0 where
+pub record TextFits (text x : List ℕ) (n : ℕ) : Type 0 where
   pub limit : limited x ≡ ok x
   pub is : take n text ≡ x
   pub inside : n ≤ length text
@@ -31,10 +31,10 @@ unfolding displaying
 displaying-is text x {b} size e = let m : min (length text) 65536 ≡ 65536 = rw size in rw (m, e, displaying)
 
 module _ (text x : List ℕ) (size : length text ≡ 65536) {text′ : List ℕ} {p : Displayed} where
-  pub text-fits : {n : ℕ} → p ≡ displayed.Text n → left p text′ ≡ displaying text x → Fits text′ x n
+  pub text-fits : {n : ℕ} → p ≡ displayed.Text n → left p text′ ≡ displaying text x → TextFits text′ x n
   text-fits {n} v e = go (leb (length x) 65536) refl
     where
-      go : (b : Bool) → leb (length x) 65536 ≡ b → Fits text′ x n
+      go : (b : Bool) → leb (length x) 65536 ≡ b → TextFits text′ x n
       go true h =
           let f : reply (ok n) text′ ≡ reply (ok (length x)) (x ++ drop (length x) text) = ap (λ (q : Displayed). left q text′) (sym v) ∙ e ∙ displaying-is text x size h in
           let m : n ≡ length x = cc in

@@ -1,3 +1,4 @@
 pub mod Line
-pub mod Answers
 pub mod Worked
+pub mod Theorems
+pub mod Inner

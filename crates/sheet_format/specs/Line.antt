@@ -1,9 +1,10 @@
 -- The line of a sheet (01, "A sheet and its line").
-use Prim.Native.Nat.{ℕ}
+use Prim.Native.Nat.{ℕ, _≤_}
 use mathlib.Core.Bool.{true, false}
 use mathlib.Core.List.{List, [], _∷_, _++_}
-use lib.ListN.{length}
+use lib.ListN.{length, drop}
 use lib.Dec.{leb}
+use mathlib.Core.Path.{_≡_}
 use Rattle.types.specs.Out.{Out, ok, refuse, _>>=_}
 use Rattle.types.specs.Bytes.{bytes}
 use Rattle.types.specs.Decimal.{decimal}
@@ -57,3 +58,9 @@ line-of (refuse e) = refused-line e
 unfoldable pub sheet-line : List ℕ → List ℕ
 unfolding line-of sheet-answer
 sheet-line input = line-of (sheet-answer input)
+
+-- r is the length of the sheet's line, which fits and stands first in the bytes b; the others are as they were
+pub record WritesLine (input b b′ : List ℕ) (r : ℕ) : Type 0 where
+  pub count : r ≡ length (sheet-line input)
+  pub fits : r ≤ length b′
+  pub bytes : b′ ≡ sheet-line input ++ drop r b

@@ -12,9 +12,10 @@ use types::short_text::ShortText;
 ghost use mathlib.Core.List.{_++_};
 ghost use Rattle.types.specs.Bytes.{bytes};
 ghost use Rattle.types.specs.Decimal.{decimal};
-ghost use Rattle.text_writing.specs.Writes.{Writes};
+ghost use Rattle.text_writing.specs.Inner.Writes.{Writes};
 ghost use Rattle.sheet_format.specs.Line.{type-line, refused-line};
-ghost use Rattle.sheet_format.specs.Answers.{SheetIn, AnswersType, Empty, AnswersSheet, WritesLine};
+ghost use Rattle.sheet_format.specs.Inner.{SheetIn, AnswersType, Empty, AnswersSheet};
+ghost use Rattle.sheet_format.specs.Line.{WritesLine};
 
 // The root after, the passes made and the length of the text; or the number of a refusal.
 enum Answer {
@@ -67,16 +68,14 @@ fn answer_type(
     ensures { λ r. ⌜ AnswersType (now (table .entry)) (now (words .entry)) (now (starts .entry)) c root (now (text .exit)) r ⌝ }
 {
     let simplified = simplify_in(words, starts, c, root);
-    match simplified {
-        Simplified::Refused(number) => Answer::Refused(number),
-        Simplified::Type(n, passes, d) => {
-            let displayed = display_in(table, words, starts, d, n, text);
-            match displayed {
-                Displayed::Refused(number) => Answer::Refused(number),
-                Displayed::Text(length) => Answer::Type(n, passes, length),
-            }
-        }
-    }
+    let Simplified::Type(n, passes, d) = simplified else {
+        return Answer::Refused(simplified.refusal());
+    };
+    let displayed = display_in(table, words, starts, d, n, text);
+    let Displayed::Text(length) = displayed else {
+        return Answer::Refused(displayed.refusal());
+    };
+    Answer::Type(n, passes, length)
 }
 
 // What the sheet with these bytes becomes.
@@ -85,12 +84,10 @@ fn answer_sheet(input: &[u8], words: &mut [u32], starts: &mut [u32], text: &mut 
     ensures { λ r. ⌜ AnswersSheet (now (input .entry)) (now (text .exit)) r ⌝ }
 {
     let reading = read_sheet(input, words, starts);
-    match reading {
-        Reading::Refused(number) => Answer::Refused(number),
-        Reading::Sheet(end, c, root) => {
-            answer_type(&input[6..end], words, starts, c, root, text)
-        }
-    }
+    let Reading::Sheet(end, c, root) = reading else {
+        return Answer::Refused(reading.refusal());
+    };
+    answer_type(&input[6..end], words, starts, c, root, text)
 }
 
 // Writes the line of the sheet, and answers how many bytes it has.

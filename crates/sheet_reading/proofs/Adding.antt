@@ -15,14 +15,14 @@ use Rattle.types.specs.declared.Counters.{Counters}
 use Rattle.types.proofs.Decodes.{decode-ok, Faultless, faultless, faulty}
 use Rattle.types.proofs.Sound.{find-at}
 use Rattle.node_store.specs.Intern.{has-room, intern, left}
-use Rattle.node_store.specs.Added.{Interns}
+use Rattle.node_store.specs.Inner.Added.{Interns}
 use Rattle.node_store.specs.declared.added.Interned.{Interned}
 use Rattle.node_store.specs.declared.added.Interned.the-variants as interned
 use Rattle.node_store.proofs.Additions.{intern-stored, intern-full, intern-new}
 use Rattle.node_store.proofs.Interning as interning
 use Rattle.node_store.proofs.Interning.{done-holds}
 use Rattle.sheet_reading.specs.Sheet.{placed, added}
-use Rattle.sheet_reading.specs.Steps.{Adds, done, stop, AddsNode}
+use Rattle.sheet_reading.specs.Inner.Steps.{Adds, done, stop, AddsNode}
 
 -- ---- the definition, case by case
 module _ (lw ls table : ℕ) (ws : List ℕ) (a : Arena) where

@@ -7,7 +7,7 @@ use native.Mathlib.Numerals.{add-one}
 use lib.ListN.{length, take, drop, set, length-set}
 use lib.Seq.{drop-drop, take-suc-set}
 use Rattle.sheet_reading.specs.Sheet.{value, words}
-use Rattle.sheet_reading.specs.Steps.{Inside, WordAt, Stretch, Copied}
+use Rattle.sheet_reading.specs.Inner.Steps.{Inside, WordAt, Stretch, Copied}
 
 -- one word more, at the other end
 words-more : (i : ℕ) (l : List ℕ) → words (suc i) l ≡ words i l ++ (value (take 4 (drop (4 * i) l)) ∷ [])

@@ -5,7 +5,7 @@ use mathlib.Core.List.{List}
 use native.Mathlib.Omega.{arith}
 use lib.ListN.{length, take, drop, length-drop, take-append-drop}
 use lib.Seq.{length-take-le, take-all, take-append-le, drop-append-le}
-use Rattle.sheet_reading.specs.Reading.{Readable}
+use Rattle.sheet_reading.specs.Inner.Reading.{Readable}
 
 module _ (l : List ℕ) where
   pub cut-size : {n : ℕ} → n < length l → n ≡ length (take n l)

@@ -16,7 +16,7 @@ use Rattle.types.specs.Fault.{flags-fit, kind-fits, head-fits}
 use Rattle.types.proofs.Tests.{true-false, and-true}
 use Rattle.types.proofs.Nodes.{few-words}
 use Rattle.sheet_reading.specs.Sheet.{value, words, node-length, measured, node-words}
-use Rattle.sheet_reading.specs.Steps.{WordAt, ReadsWords}
+use Rattle.sheet_reading.specs.Inner.Steps.{WordAt, ReadsWords}
 use Rattle.sheet_reading.specs.declared.bytes.Place.the-variants as place
 use Rattle.sheet_reading.proofs.Readers.{same-value, never-refused, several-yes, several-no, number-yes, number-no, reads-to, reads-stop}
 

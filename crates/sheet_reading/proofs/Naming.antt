@@ -10,8 +10,7 @@ use borrow.Author.Tests.{le-leb, lt-leb, leb-true, leb-false}
 use Rattle.types.specs.Out.{Out, ok, refuse, _>>=_}
 use Rattle.types.proofs.Tests.{and-true, both}
 use Rattle.types.specs.Order.{is-less}
-use Rattle.names.specs.Table.{Name, table, name-order, rising, good-name, all-good}
-use Rattle.names.specs.Steps.{may-follow}
+use Rattle.names.specs.Table.{Name, table, name-order, rising, good-name, all-good, may-follow}
 use Rattle.names.proofs.Following.{follows-is}
 use Rattle.sheet_reading.specs.Sheet.{value-after, number, several, last, name, names}
 use Rattle.sheet_reading.proofs.Readers.{same-value, never-refused, several-yes, several-no, number-yes}

@@ -6,7 +6,7 @@ use native.Mathlib.Omega.{arith}
 use lib.ListN.{length, getD, take, drop, length-drop}
 use lib.Seq.{getD-drop, drop-drop}
 use Rattle.sheet_reading.specs.Sheet.{value-after, value}
-use Rattle.sheet_reading.specs.Steps.{Inside, ByteAt, ShortAt, WordAt}
+use Rattle.sheet_reading.specs.Inner.Steps.{Inside, ByteAt, ShortAt, WordAt}
 
 two : (l : List ℕ) → 2 ≤ length l → value (take 2 l) ≡ getD l 0 0 * 256 + getD l 1 0
 unfolding value-after

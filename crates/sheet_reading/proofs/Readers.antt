@@ -7,7 +7,7 @@ use lib.ListN.{length, take, drop}
 use borrow.Author.Tests.{le-leb, lt-leb}
 use Rattle.types.specs.Out.{Out, ok, refuse}
 use Rattle.sheet_reading.specs.Sheet.{several, value, number}
-use Rattle.sheet_reading.specs.Steps.{Reads, to, stop}
+use Rattle.sheet_reading.specs.Inner.Steps.{Reads, to, stop}
 use Rattle.sheet_reading.specs.declared.bytes.Place.{Place}
 use Rattle.sheet_reading.specs.declared.bytes.Place.the-variants as place
 

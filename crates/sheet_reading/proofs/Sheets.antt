@@ -16,8 +16,8 @@ use Rattle.types.proofs.Tests.{both}
 use Rattle.names.specs.Table.{Name, table, rising, all-good, IsTable}
 use Rattle.names.proofs.Rules.{rules-good}
 use Rattle.sheet_reading.specs.Sheet.{value, Opening, opening, names, nodes, Sheet, after-names, contents, ended, read-sheet}
-use Rattle.sheet_reading.specs.Steps.{ShortAt, ReadsNames, ReadyEmpty, StoresNodes}
-use Rattle.sheet_reading.specs.Reading.{Blank, Says, sheet, refused, ReadsSheet, Readable, Opened, ReadsContents}
+use Rattle.sheet_reading.specs.Inner.Steps.{ShortAt, ReadsNames, ReadyEmpty, StoresNodes}
+use Rattle.sheet_reading.specs.Inner.Reading.{Blank, Says, sheet, refused, ReadsSheet, Readable, Opened, ReadsContents}
 use Rattle.sheet_reading.specs.declared.bytes.Place.{Place}
 use Rattle.sheet_reading.specs.declared.bytes.Place.the-variants as place
 use Rattle.sheet_reading.specs.declared.nodes.Nodes.{Nodes}

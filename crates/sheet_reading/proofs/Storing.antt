@@ -13,8 +13,8 @@ use Rattle.node_store.specs.declared.added.Interned.{Interned}
 use Rattle.node_store.specs.declared.added.Interned.the-variants as interned
 use Rattle.names.proofs.Walking.{part}
 use Rattle.sheet_reading.specs.Sheet.{words, node-words, added, node, nodes}
-use Rattle.sheet_reading.specs.Steps.{ReadsWords, Stretch, Copied, Adds, AddsNode, Stores, to, stop, Ready, StoresNode, ReadyEmpty, StoresNodes}
-use Rattle.sheet_reading.specs.Steps as steps
+use Rattle.sheet_reading.specs.Inner.Steps.{ReadsWords, Stretch, Copied, Adds, AddsNode, Stores, to, stop, Ready, StoresNode, ReadyEmpty, StoresNodes}
+use Rattle.sheet_reading.specs.Inner.Steps as steps
 use Rattle.sheet_reading.specs.declared.bytes.Place.{Place}
 use Rattle.sheet_reading.specs.declared.bytes.Place.the-variants as place
 use Rattle.sheet_reading.specs.declared.nodes.Nodes.{Nodes}

@@ -8,11 +8,10 @@ use native.Mathlib.Numerals.{add-one}
 use lib.ListN.{length, getD, take, drop, length-append, length-drop, drop-of-length-le}
 use lib.Seq.{drop-cons, drop-drop, take-at}
 use Rattle.types.specs.Out.{Out, ok}
-use Rattle.names.specs.Table.{Name}
-use Rattle.names.specs.Steps.{may-follow}
+use Rattle.names.specs.Table.{Name, may-follow}
 use Rattle.names.proofs.Walking.{part}
 use Rattle.sheet_reading.specs.Sheet.{last, name, names}
-use Rattle.sheet_reading.specs.Steps.{Here, ReadsName, ReadsNames}
+use Rattle.sheet_reading.specs.Inner.Steps.{Here, ReadsName, ReadsNames}
 use Rattle.sheet_reading.specs.declared.bytes.Place.{Place}
 use Rattle.sheet_reading.specs.declared.bytes.Place.the-variants as place
 use Rattle.sheet_reading.proofs.Readers.{got, refused, reads-to, reads-stop}

@@ -1,4 +1,4 @@
 pub mod Sheet
 pub mod Worked
-pub mod Steps
-pub mod Reading
+pub mod Theorems
+pub mod Inner

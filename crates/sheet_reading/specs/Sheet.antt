@@ -10,8 +10,7 @@ use Rattle.types.specs.Out.{Out, ok, refuse, _>>=_}
 use Rattle.types.specs.Node.{Node, decode}
 use Rattle.types.specs.Fault.{head-fits}
 use Rattle.types.specs.Arena.{Arena, find}
-use Rattle.names.specs.Table.{Name}
-use Rattle.names.specs.Steps.{may-follow}
+use Rattle.names.specs.Table.{Name, may-follow}
 use Rattle.node_store.specs.Intern.{has-room}
 
 -- a reader takes bytes from the front: what they say with the bytes that are left, or the number of the first fault

@@ -1,10 +1,24 @@
 // The numbers of a sheet, most significant byte first.
-ghost use Rattle.sheet_reading.specs.Steps.{Inside, ByteAt, ShortAt, WordAt};
+ghost use mathlib.Core.Path.{_≡_};
+ghost use Rattle.types.specs.Out.{number};
+ghost use Rattle.sheet_reading.specs.Inner.Steps.{place-out, Inside, ByteAt, ShortAt, WordAt};
 
 // The place where reading goes on, or the number of a refusal.
 pub(crate) enum Place {
     At(usize),
     Refused(u32),
+}
+
+impl Place {
+    // The number of a refusal, for an answer of another type.
+    pub(crate) fn refusal(self) -> u32
+        ensures { λ r. ⌜ r ≡ number (place-out self) ⌝ }
+    {
+        match self {
+            Place::At(_) => 0,
+            Place::Refused(number) => number,
+        }
+    }
 }
 
 fn byte(bytes: &[u8], at: usize) -> u32

@@ -11,12 +11,26 @@ use nodes::read_nodes;
 use table::read_names;
 use types::Counters;
 use types::arc_ty::wide;
-ghost use Rattle.sheet_reading.specs.Reading.{Blank, ReadsSheet, Readable, Opened, ReadsContents};
+ghost use mathlib.Core.Path.{_≡_};
+ghost use Rattle.types.specs.Out.{number};
+ghost use Rattle.sheet_reading.specs.Inner.Reading.{reading-out, Blank, ReadsSheet, Readable, Opened, ReadsContents};
 
 // Where the table ends, the counters and the root; or the number of a refusal.
 pub enum Reading {
     Sheet(usize, Counters, u32),
     Refused(u32),
+}
+
+impl Reading {
+    // The number of a refusal, for an answer of another type.
+    pub fn refusal(self) -> u32
+        ensures { λ r. ⌜ r ≡ number (reading-out self) ⌝ }
+    {
+        match self {
+            Reading::Sheet(_, _, _) => 0,
+            Reading::Refused(number) => number,
+        }
+    }
 }
 
 // Names and nodes, from the bytes of the input that may be read.
@@ -36,25 +50,21 @@ fn read_contents(
         return Reading::Refused(1);
     }
     let table = read_names(bytes, 6, names);
-    match table {
-        Place::Refused(number) => Reading::Refused(number),
-        Place::At(end) => {
-            let stored = read_nodes(bytes, end, words, starts, names, nodes);
-            match stored {
-                Nodes::Refused(number) => Reading::Refused(number),
-                Nodes::To(at, c) => {
-                    let node = wide(root);
-                    if at < input.len() {
-                        return Reading::Refused(10);
-                    }
-                    if node >= c.nodes {
-                        return Reading::Refused(6);
-                    }
-                    Reading::Sheet(end, c, root)
-                }
-            }
-        }
+    let Place::At(end) = table else {
+        return Reading::Refused(table.refusal());
+    };
+    let stored = read_nodes(bytes, end, words, starts, names, nodes);
+    let Nodes::To(at, c) = stored else {
+        return Reading::Refused(stored.refusal());
+    };
+    let node = wide(root);
+    if at < input.len() {
+        return Reading::Refused(10);
     }
+    if node >= c.nodes {
+        return Reading::Refused(6);
+    }
+    Reading::Sheet(end, c, root)
 }
 
 // The bytes that may be read.

@@ -8,13 +8,38 @@ use node_store::added::intern_node;
 use types::Counters;
 use types::arc_ty::Head;
 use types::arc_ty::wide;
-ghost use Rattle.node_store.specs.Added.{Under};
-ghost use Rattle.sheet_reading.specs.Steps.{Here, ReadsWords, Stretch, Copied, AddsNode, Ready, StoresNode, ReadyEmpty, StoresNodes};
+ghost use mathlib.Core.Path.{_≡_};
+ghost use Rattle.types.specs.Out.{number};
+ghost use Rattle.node_store.specs.Inner.Added.{Under};
+ghost use Rattle.sheet_reading.specs.Inner.Steps.{
+  nodes-out,
+  Here,
+  ReadsWords,
+  Stretch,
+  Copied,
+  AddsNode,
+  Ready,
+  StoresNode,
+  ReadyEmpty,
+  StoresNodes,
+};
 
 // The place where reading goes on and the counters, or the number of a refusal.
 pub(crate) enum Nodes {
     To(usize, Counters),
     Refused(u32),
+}
+
+impl Nodes {
+    // The number of a refusal, for an answer of another type.
+    pub(crate) fn refusal(self) -> u32
+        ensures { λ r. ⌜ r ≡ number (nodes-out self) ⌝ }
+    {
+        match self {
+            Nodes::To(_, _) => 0,
+            Nodes::Refused(number) => number,
+        }
+    }
 }
 
 // Where the node ends whose head stands at `at`: the head is judged before the body is read.
@@ -95,18 +120,16 @@ fn read_node(
         (now (starts .exit)) r ⌝ }
 {
     let place = node_end(bytes, at);
-    match place {
-        Place::Refused(number) => Nodes::Refused(number),
-        Place::At(end) => {
-            let mut node = [0u32; 66];
-            let count = copy_words(&bytes[at..end], &mut node);
-            let interned = add_node(words, starts, c, names, &node[..count]);
-            match interned {
-                Interned::Refused(number) => Nodes::Refused(number),
-                Interned::Node(n, d) => Nodes::To(end, d),
-            }
-        }
-    }
+    let Place::At(end) = place else {
+        return Nodes::Refused(place.refusal());
+    };
+    let mut node = [0u32; 66];
+    let count = copy_words(&bytes[at..end], &mut node);
+    let interned = add_node(words, starts, c, names, &node[..count]);
+    let Interned::Node(_, d) = interned else {
+        return Nodes::Refused(interned.refusal());
+    };
+    Nodes::To(end, d)
 }
 
 // Reads so many nodes from `first` on into memory that holds none.

@@ -2,7 +2,7 @@
 use crate::bytes::Place;
 use names::follows;
 use names::wide;
-ghost use Rattle.sheet_reading.specs.Steps.{Here, ReadsName, ReadsNames};
+ghost use Rattle.sheet_reading.specs.Inner.Steps.{Here, ReadsName, ReadsNames};
 
 // Where the name ends whose length byte stands at `at`, if it may follow the previous one.
 fn read_name(bytes: &[u8], previous: &[u8], at: usize) -> Place

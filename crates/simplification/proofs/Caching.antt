@@ -17,8 +17,10 @@ use Rattle.types.proofs.Growth.{ext-trans, ext-length}
 use Rattle.node_store.specs.Intern.{intern}
 use Rattle.recursion.specs.Jobs.{Job, each, rebuild}
 use Rattle.recursion.proofs.Members.{index-of, member-at, member-below}
-use Rattle.recursion.proofs.Steady.{Steady, There, steady-later, steady-as, refusal-steady, answer-steady, then-steady, each-steady, intern-steady, rebuild-steady, step-well, step-child, rec-steady}
+use Rattle.recursion.specs.Theorems.{Steady, There}
+use Rattle.recursion.proofs.Steady.{steady-later, steady-as, refusal-steady, answer-steady, then-steady, each-steady, intern-steady, rebuild-steady, step-well, step-child, rec-steady}
 use Rattle.simplification.specs.Pass.{no-variable, remaining, is-decided, member-list, list-kind, close, gather, apply-step, apply}
+use Rattle.simplification.specs.Theorems.{CacheLaw}
 use Rattle.simplification.proofs.Members.{remaining-from}
 use Rattle.simplification.proofs.Copies.{listed}
 use Rattle.simplification.proofs.Becoming.{Inside, brought-inside, decided-kept, listed-kept}
@@ -80,8 +82,7 @@ module _ (words starts table : ℕ) (few : starts ≤ 4096) where
   apply-steady = rec-steady table (λ (v : (ℕ → Bool) → Job) (R : ℕ → Bool). v R) (apply-step words starts) (λ R a. refuse 6) (λ (s : Arena). s) (λ x s. more x here) step-steady
 
 -- the law: a₀ is an earlier arena, a₁ what was left then, a the present one
-pub cache-law : (words starts table : ℕ) → starts ≤ 4096 → (R : ℕ → Bool) (a₀ a₁ a : Arena) (n m : ℕ) → sound table a₀ ≡ true → n < length a₀ → apply words starts a₀ n R a₀ ≡ ok (m, a₁) → Ext a₁ a → sound table a ≡ true
-    → apply words starts a n R a ≡ ok (m, a)
+pub cache-law : CacheLaw
 cache-law words starts table few R a₀ a₁ a n m h l e x g =
     let F = apply-steady words starts table few a₀ h n l R .is a₀ a₁ m here h e in
     (λ i. apply-kept words starts a₀ a (ext-trans (F .ext) x) n l i R a) ∙ F .again a x g

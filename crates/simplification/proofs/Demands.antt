@@ -5,15 +5,16 @@ use mathlib.Core.Bool.{Bool, true, false}
 use mathlib.Core.List.{List, [], _∷_, List·Memᴰ as Mem, List·Memᴰ·head as head, List·Memᴰ·tail as tail, List·Memᴰ·not-nil as not-nil, List·Memᴰ·eq-of-singleton as eq-of-singleton}
 use lib.ListN.{length}
 use lib.Dec.{eqb}
+use Rattle.types.specs.Places.{Occurs}
 use Rattle.types.specs.Out.{Out, ok, _>>=_}
 use Rattle.types.specs.Node.{Polarity, positive}
 use Rattle.types.specs.Arena.{Arena, sound}
 use Rattle.recursion.proofs.Answers.{ok-same, bind-parts}
-use Rattle.simplification.specs.Removal.{Occurs}
 use Rattle.simplification.specs.Pass.{pass}
 use Rattle.simplification.specs.Passes.{Taken, Result, after, unchanged, more-passes, passes, simplify-by, simplify}
 use Rattle.simplification.specs.Reading.{Reading}
-use Rattle.simplification.specs.Demand.{Fits, Demand}
+use Rattle.simplification.specs.Demand.{ReadingFits}
+use Rattle.simplification.specs.Theorems.{DemandBy, Demand3}
 use Rattle.simplification.proofs.Shaping.{InShape}
 use Rattle.simplification.proofs.Passing.{Kept, Passed, passed}
 
@@ -47,10 +48,10 @@ no-pass table n a s = record {
 }
 
 -- a reading that fits the first pass and the others
-fits-first : {r : Reading} {t : Taken} {ts : List Taken} → Fits r (t ∷ ts) → Fits r (t ∷ [])
+fits-first : {r : Reading} {t : Taken} {ts : List Taken} → ReadingFits r (t ∷ ts) → ReadingFits r (t ∷ [])
 fits-first F = record { as-seen = λ u i. F .as-seen u (head (eq-of-singleton i)) }
 
-fits-rest : {r : Reading} {t : Taken} {ts : List Taken} → Fits r (t ∷ ts) → Fits r ts
+fits-rest : {r : Reading} {t : Taken} {ts : List Taken} → ReadingFits r (t ∷ ts) → ReadingFits r ts
 fits-rest F = record { as-seen = λ u i. F .as-seen u (tail i) }
 
 -- a pass, and those that follow
@@ -99,16 +100,16 @@ module _ (words starts table : ℕ) (few : starts ≤ 4096) where
         let r = bind-parts (passes words starts i (p .0 .0) (p .0 .1)) (λ q. ok (after root a q)) (p .2) in
         subst (Passes table root a) (ok-same (r .2)) (then-passes table root a g l (p .0 .0) (p .0 .1) P (r .0) (passes-do i (p .0 .0) (p .0 .1) (P .good) (P .inside) (P .shape) (r .0) (r .1)))
 
-    pub demand-by : Demand a root q
-    demand-by =
-        let Q = simplify-passes in
-        record {
-          meaning-kept = Q .kept .same-set;
-          shape = λ u k R. Q .shape positive u (R .sign) (R .place) k;
-          no-new-variable = Q .kept .occurs;
-        }
+pub demand-by : DemandBy
+demand-by words starts table few i root a g l q e =
+    let Q = simplify-passes words starts table few i root a g l q e in
+    record {
+      meaning-kept = Q .kept .same-set;
+      shape = λ u k R. Q .shape positive u (R .sign) (R .place) k;
+      no-new-variable = Q .kept .occurs;
+    }
 
-  -- with five more passes at most
-  pub demand-3 : (root : ℕ) (a : Arena) → sound table a ≡ true → root < length a → (q : Result) → simplify words starts root a ≡ ok q → Demand a root q
-  unfolding simplify
-  demand-3 = demand-by more-passes
+-- with five more passes at most
+pub demand-3 : Demand3
+unfolding simplify
+demand-3 words starts table few = demand-by words starts table few more-passes

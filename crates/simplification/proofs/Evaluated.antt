@@ -1,10 +1,9 @@
 -- Every worked type becomes what document 01 says, by evaluation.
-use mathlib.Core.Path.{_≡_, refl}
-use mathlib.Core.List.{map}
+use mathlib.Core.Path.{refl}
 use Rattle.types.specs.Node.{child-words}
 use Rattle.simplification.specs.Passes.{simplify}
-use Rattle.simplification.specs.Worked.{Case, worked}
+use Rattle.simplification.specs.Theorems.{WorkedSo}
 
-pub worked-so : map (λ (c : Case). c .gives) worked ≡ map (λ (c : Case). c .says) worked
+pub worked-so : WorkedSo
 unfolding simplify child-words
 worked-so = refl

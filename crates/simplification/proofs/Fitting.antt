@@ -15,7 +15,8 @@ use Rattle.simplification.specs.Removal.{OccursOnly}
 use Rattle.simplification.specs.Pass.{one-of}
 use Rattle.simplification.specs.Passes.{Taken, Result, simplify-by}
 use Rattle.simplification.specs.Reading.{Entry, Reading, in-bound}
-use Rattle.simplification.specs.Demand.{Fits}
+use Rattle.simplification.specs.Demand.{ReadingFits}
+use Rattle.simplification.specs.Theorems.{SomeReadingFits}
 use Rattle.simplification.proofs.Answers.{one-true, one-if}
 use Rattle.simplification.proofs.Seeing.{seen-occurs, occurs-seen, unseen}
 use Rattle.simplification.proofs.Demands.{SoundType, Decreasing, more, simplify-passes}
@@ -61,10 +62,10 @@ unfoldable pub fitting : List Taken → (k : ℕ) → List (Entry k) → Reading
 unfolding only-negative
 fitting ts k es = record { marks = k; vars = λ v m. only-negative ts v; entries = es }
 
-pub some-reading-fits : (words starts table : ℕ) → starts ≤ 4096 → (i root : ℕ) (a : Arena) → sound table a ≡ true → root < length a → (q : Result) → simplify-by words starts i root a ≡ ok q
-    → (k : ℕ) (es : List (Entry k)) → Fits (fitting (q .taken) k es) (q .taken)
+pub fitting-fits : (words starts table : ℕ) → starts ≤ 4096 → (i root : ℕ) (a : Arena) → sound table a ≡ true → root < length a → (q : Result) → simplify-by words starts i root a ≡ ok q
+    → (k : ℕ) (es : List (Entry k)) → ReadingFits (fitting (q .taken) k es) (q .taken)
 unfolding fitting
-some-reading-fits words starts table few i root a g l q e k es = record { as-seen = λ t j v p O m. go t j v p O }
+fitting-fits words starts table few i root a g l q e k es = record { as-seen = λ t j v p O m. go t j v p O }
   where
     decreasing : Decreasing table (q .taken)
     decreasing = simplify-passes words starts table few i root a g l q e .decreasing
@@ -74,3 +75,7 @@ some-reading-fits words starts table few i root a g l q e k es = record { as-see
         let n = one-true (λ (t : Taken). negative-in t v) (q .taken) w in
         no-clash table v decreasing t (n .0) j (n .1) O (seen-only table v (n .0) (sound-type table v decreasing (n .0) (n .1)) (n .2)))
     go t j v negative O = one-if (λ (t : Taken). negative-in t v) (q .taken) t j (only-seen table v t (sound-type table v decreasing t j) O)
+
+pub some-reading-fits : SomeReadingFits
+unfolding fitting
+some-reading-fits words starts table few i root a g l q e k es = record { vars = λ v m. only-negative (q .taken) v; fits = fitting-fits words starts table few i root a g l q e k es }

@@ -8,18 +8,18 @@ use lib.ListN.{length, getD}
 use Rattle.types.specs.Out.{ok}
 use Rattle.types.specs.Node.{Polarity, positive, negative, Tag, var, neg, tag, children}
 use Rattle.types.specs.Arena.{Arena, at, sound, Ext, here}
-use Rattle.types.specs.Places.{opposite, child-sign, Place, self, down, Polar}
+use Rattle.types.specs.Places.{opposite, child-sign, Place, self, down, Polar, Occurs}
 use Rattle.types.proofs.Growth.{ext-length, ext-at}
 use Rattle.types.proofs.Sound.{ext-fold}
 use Rattle.types.proofs.Walks.{place-join, place-lower, place-kept, place-old}
 use Rattle.recursion.proofs.Interning.{node-is}
 use Rattle.recursion.proofs.Members.{index-of}
 use Rattle.simplification.specs.Seen.{sees-node, sees, one-signed}
-use Rattle.simplification.specs.Removal.{Occurs, OccursOnly}
+use Rattle.simplification.specs.Removal.{OccursOnly}
 use Rattle.simplification.specs.Pass.{pass}
 use Rattle.simplification.specs.Passes.{Taken}
 use Rattle.simplification.specs.Reading.{Reading, in-bound, in-neg, set-of}
-use Rattle.simplification.specs.Demand.{Fits}
+use Rattle.simplification.specs.Demand.{ReadingFits}
 use Rattle.simplification.proofs.Becoming.{becomes-inside}
 use Rattle.simplification.proofs.Rebuilding.{has-negated}
 use Rattle.simplification.proofs.Running.{Run, apply-runs}
@@ -103,7 +103,7 @@ module _ (table : ℕ) (a b : Arena) (g : sound table a ≡ true) (ext : Ext a b
 -- ---- from one type to another
 pub record Kept (taken : List Taken) (a : Arena) (n : ℕ) (b : Arena) (m : ℕ) : Type 0 where
   pub polar : Polar a n → Polar b m
-  pub same-set : Polar a n → (r : Reading) → Fits r taken → set-of r a n ≡ set-of r b m
+  pub same-set : Polar a n → (r : Reading) → ReadingFits r taken → set-of r a n ≡ set-of r b m
   pub occurs : (v : ℕ) (p : Polarity) → Occurs b m v p → Occurs a n v p
 
 -- a finished pass
@@ -121,7 +121,7 @@ module _ (table n : ℕ) (a : Arena) (g : sound table a ≡ true) (l : n < lengt
       let o = old-place table a b g (R .ext) n l (O .place) in
       (O .number, o .0, sym (ap tag (o .1)) ∙ O .same)
 
-  same-set : Polar a n → (r : Reading) → Fits r (record { root = n; arena = a } ∷ []) → set-of r a n ≡ set-of r b m
+  same-set : Polar a n → (r : Reading) → ReadingFits r (record { root = n; arena = a } ∷ []) → set-of r a n ≡ set-of r b m
   same-set h r F =
       let k : n < length b = omega (arith, ext-length a b (R .ext)) in
       let S = polar-safe r table b (R .good) n k (polar-kept table a b g (R .ext) n l h) (λ v p O. F .as-seen (record { root = n; arena = a }) (head refl) v p (only-old table a b g (R .ext) n l v p O)) in

@@ -4,13 +4,13 @@ use mathlib.Core.Path.{_≡_, refl, sym, ap, _∙_, subst}
 use mathlib.Core.Bool.{Bool, true, false}
 use lib.ListN.{length, getD}
 use Rattle.types.specs.Node.{Polarity, positive, Tag, members, bound, var, neg, form, tag, children}
-use Rattle.types.specs.Arena.{Arena, at, sound}
-use Rattle.types.specs.Places.{child-sign, Place, self, down, Polar}
+use Rattle.types.specs.Arena.{Arena, at}
+use Rattle.types.specs.Places.{child-sign, Place, self, down, Occurs}
 use Rattle.types.proofs.Tests.{true-false}
 use Rattle.types.proofs.Walks.{place-join}
 use Rattle.simplification.specs.Seen.{same-tag, one-signed}
-use Rattle.simplification.specs.Removal.{Occurs, FallsAway}
 use Rattle.simplification.specs.Pass.{var-of, is-removable}
+use Rattle.simplification.specs.Theorems.{DropsAsPaper}
 use Rattle.simplification.proofs.Answers.{same-tag-true}
 use Rattle.simplification.proofs.Seeing.{one-signed-only, only-one-signed}
 
@@ -48,10 +48,8 @@ member-place {a} {root} {u} {p} k q e i l =
     place-join q (subst (λ (t : Polarity). Place a u p (getD (children (at a u)) i 0) t) s (down i l self))
 
 -- the paper's removal: a pass drops a member that is a variable exactly if it falls away from lists of that kind
-module _ (table : ℕ) (a : Arena) (h : sound table a ≡ true) (root : ℕ) (l : root < length a) (polar : Polar a root) where
-  pub drops-as-paper : (u : ℕ) (p k : Polarity) → Place a root positive u p → tag (at a u) ≡ members k → (i : ℕ) → i < length (children (at a u)) → (v : ℕ) → tag (at a (getD (children (at a u)) i 0)) ≡ var v
-      → (is-removable (one-signed a root) a (getD (children (at a u)) i 0) ≡ true → FallsAway a root k v) × (FallsAway a root k v → is-removable (one-signed a root) a (getD (children (at a u)) i 0) ≡ true)
-  drops-as-paper u p k q e i j v w =
-      let O : Occurs a root v k = record { number = getD (children (at a u)) i 0; place = subst (Place a root positive (getD (children (at a u)) i 0)) (polar .sides u p k q e) (member-place k q e i j); is = w } in
-      let r = removable-var (one-signed a root) a (getD (children (at a u)) i 0) v w in
-      ((λ d. one-signed-only table a h root l v k (sym r ∙ d) O), (λ f. r ∙ only-one-signed table a h root l v k f))
+pub drops-as-paper : DropsAsPaper
+drops-as-paper table a h root l polar u p k q e i j v w =
+    let O : Occurs a root v k = record { number = getD (children (at a u)) i 0; place = subst (Place a root positive (getD (children (at a u)) i 0)) (polar .sides u p k q e) (member-place k q e i j); is = w } in
+    let r = removable-var (one-signed a root) a (getD (children (at a u)) i 0) v w in
+    ((λ d. one-signed-only table a h root l v k (sym r ∙ d) O), (λ f. r ∙ only-one-signed table a h root l v k f))

@@ -19,6 +19,7 @@ use Rattle.recursion.proofs.Answers.{ok-same, bind-parts}
 use Rattle.recursion.proofs.Interning.{node-is, At, well-again, interned}
 use Rattle.recursion.proofs.Members.{index-of, member-at, member-below}
 use Rattle.simplification.specs.Pass.{no-variable, remaining, is-decided, member-list, list-kind, close, gather, apply-step, apply}
+use Rattle.simplification.specs.Theorems.{ApplySound}
 use Rattle.simplification.proofs.Members.{remaining-from}
 use Rattle.simplification.proofs.Copies.{listed}
 use Rattle.simplification.proofs.Becoming.{Stands, decided, single, several, Becomes, other, list, emptied, AllBecome, all-inside, at-kept, Inside, brought-inside, decided-kept, listed-kept, members-kept, becomes-kept, becomes-inside}
@@ -160,6 +161,8 @@ module _ (words starts table : ℕ) (few : starts ≤ 4096) where
     pub apply-runs : Run table R a n m b
     apply-runs = bounded-run (suc n) n (omega arith) R s l a b m x g e
 
-    -- in a sound arena that grew from the one whose node is simplified: the arena left grew again and is sound, and the answer is there
-    pub apply-sound : Ext a b × (sound table b ≡ true) × (m < length b)
-    apply-sound = (apply-runs .ext, apply-runs .good, becomes-inside (apply-runs .becomes))
+-- in a sound arena that grew from the one whose node is simplified: the arena left grew again and is sound, and the answer is there
+pub apply-sound : ApplySound
+apply-sound words starts table few R s a b n m x g l e =
+    let r = apply-runs words starts table few R s a b n m x g l e in
+    (r .ext, r .good, becomes-inside (r .becomes))

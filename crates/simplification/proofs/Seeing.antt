@@ -10,11 +10,11 @@ use lib.ListN.{length, getD}
 use Rattle.types.specs.Same.{same}
 use Rattle.types.specs.Node.{Polarity, positive, negative, Polarity-dec, var, tag, children}
 use Rattle.types.specs.Arena.{Arena, at, fold, sound}
-use Rattle.types.specs.Places.{opposite, child-sign, Place, self, down, Has}
+use Rattle.types.specs.Places.{opposite, child-sign, Place, self, down, Has, Occurs}
 use Rattle.types.proofs.Tests.{true-false, and-true, both, not-true, same-true, same-if}
 use Rattle.types.proofs.Sound.{child-lower, fold-at}
 use Rattle.simplification.specs.Seen.{same-tag, some-child, sees-node, sees, one-signed}
-use Rattle.simplification.specs.Removal.{Occurs, OccursOnly}
+use Rattle.simplification.specs.Theorems.{SeesPlaces, OneSignedOnly, OnlyOneSigned}
 use Rattle.simplification.proofs.Answers.{same-tag-true, same-tag-if, or-true, or-left, or-right}
 
 -- ---- one of the children
@@ -70,9 +70,9 @@ module _ (table : ℕ) (a : Arena) (h : sound table a ≡ true) (v : ℕ) (p : P
           let H = f (r .0) (r .1) (r .2) in
           record { number = H .number; place = down (r .0) (r .1) (H .place); is = H .is }
 
-  -- seen exactly where there is a place
-  pub sees-places : (n : ℕ) → n < length a → (s : Polarity) → (sees a n s v p ≡ true → Has a n s v p) × (Has a n s v p → sees a n s v p ≡ true)
-  sees-places n l s = (bounded-place (suc n) n (omega arith) l s, λ H. place-sees (H .place) l (H .is))
+-- seen exactly where there is a place
+pub sees-places : SeesPlaces
+sees-places table a h v p n l s = (bounded-place table a h v p (suc n) n (omega arith) l s, λ H. place-sees table a h v p (H .place) l (H .is))
 
 -- ---- the variables of the type of a root
 module _ (table : ℕ) (a : Arena) (h : sound table a ≡ true) (root : ℕ) (l : root < length a) (v : ℕ) where
@@ -85,16 +85,17 @@ module _ (table : ℕ) (a : Arena) (h : sound table a ≡ true) (root : ℕ) (l 
   pub unseen : (p : Polarity) → (Occurs a root v p → ⊥) → sees a root positive v p ≡ false
   unseen p f = not-true (sees a root positive v p) (λ e. f (seen-occurs p e))
 
-  -- a one-signed variable occurs with the polarity that it has somewhere, and no other
-  pub one-signed-only : (p : Polarity) → one-signed a root v ≡ true → Occurs a root v p → OccursOnly a root v p
-  unfolding one-signed
-  one-signed-only p e O = record { there = O; nowhere-else = λ N. clash p (occurs-seen p O) (occurs-seen (opposite p) N) }
-    where
-      clash : (p : Polarity) → sees a root positive v p ≡ true → sees a root positive v (opposite p) ≡ true → ⊥
-      clash positive x y = true-false (sym (rw (x, y) at e))
-      clash negative x y = true-false (sym (rw (x, y) at e))
+-- a one-signed variable occurs with the polarity that it has somewhere, and no other
+pub one-signed-only : OneSignedOnly
+unfolding one-signed
+one-signed-only table a h root l v p e O =
+    record { there = O; nowhere-else = λ N. clash p (occurs-seen table a h root l v p O) (occurs-seen table a h root l v (opposite p) N) }
+  where
+    clash : (p : Polarity) → sees a root positive v p ≡ true → sees a root positive v (opposite p) ≡ true → ⊥
+    clash positive x y = true-false (sym (rw (x, y) at e))
+    clash negative x y = true-false (sym (rw (x, y) at e))
 
-  pub only-one-signed : (p : Polarity) → OccursOnly a root v p → one-signed a root v ≡ true
-  unfolding one-signed
-  only-one-signed positive O = rw (occurs-seen positive (O .there), unseen negative (O .nowhere-else))
-  only-one-signed negative O = rw (occurs-seen negative (O .there), unseen positive (O .nowhere-else))
+pub only-one-signed : OnlyOneSigned
+unfolding one-signed
+only-one-signed table a h root l v positive O = rw (occurs-seen table a h root l v positive (O .there), unseen table a h root l v negative (O .nowhere-else))
+only-one-signed table a h root l v negative O = rw (occurs-seen table a h root l v negative (O .there), unseen table a h root l v positive (O .nowhere-else))

@@ -5,14 +5,14 @@ use mathlib.Core.List.{List, List·Memᴰ}
 use lib.ListN.{length, getD}
 use Rattle.types.specs.Node.{Polarity, members, bound, tag, children}
 use Rattle.types.specs.Arena.{Arena, at}
-use Rattle.types.specs.Places.{Reachable, Polar}
-use Rattle.simplification.specs.Removal.{Occurs, OccursOnly}
+use Rattle.types.specs.Places.{Reachable, Polar, Occurs}
+use Rattle.simplification.specs.Removal.{OccursOnly}
 use Rattle.simplification.specs.Passes.{Taken, Result}
 use Rattle.simplification.specs.Reading.{Reading, in-bound, set-of}
 
 -- the reading is empty on each variable that some pass sees only at positive places, and full on each that some pass sees only at negative
 -- ones
-pub record Fits (r : Reading) (taken : List Taken) : Type 0 where
+pub record ReadingFits (r : Reading) (taken : List Taken) : Type 0 where
   pub as-seen : (t : Taken) → List·Memᴰ t taken → (v : ℕ) (p : Polarity) → OccursOnly (t .arena) (t .root) v p → (m : Fin (r .marks))
       → r .vars v m ≡ in-bound p
 
@@ -29,7 +29,7 @@ pub record Shaped (a : Arena) (k : Polarity) (ms : List ℕ) : Type 0 where
 -- in any case each list with a place in the returned type has its shape, and each variable there stands in the given type, at a place of
 -- the same sign
 pub record Demand (a : Arena) (root : ℕ) (q : Result) : Type 0 where
-  pub meaning-kept : Polar a root → (r : Reading) → Fits r (q .taken) → set-of r a root ≡ set-of r (q .arena) (q .root)
+  pub meaning-kept : Polar a root → (r : Reading) → ReadingFits r (q .taken) → set-of r a root ≡ set-of r (q .arena) (q .root)
   pub shape : (u : ℕ) (k : Polarity) → Reachable (q .arena) (q .root) u → tag (at (q .arena) u) ≡ members k
       → Shaped (q .arena) k (children (at (q .arena) u))
   pub no-new-variable : (v : ℕ) (p : Polarity) → Occurs (q .arena) (q .root) v p → Occurs a root v p

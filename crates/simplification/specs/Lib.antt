@@ -5,3 +5,4 @@ pub mod Passes
 pub mod Reading
 pub mod Demand
 pub mod Worked
+pub mod Theorems

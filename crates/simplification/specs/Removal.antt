@@ -1,13 +1,9 @@
 -- Which variables fall away, as the paper has it (docs/PAPER.md, "Removal of one-signed variables"), over places. It knows neither passes
 -- nor `Neg`.
 use Prim.Native.Nat.{ℕ}
-use Rattle.types.specs.Node.{Polarity, positive}
+use Rattle.types.specs.Node.{Polarity}
 use Rattle.types.specs.Arena.{Arena}
-use Rattle.types.specs.Places.{opposite, Has}
-
--- the variable v occurs with the polarity p in the type of the root, which is positive
-abbrev pub Occurs : Arena → ℕ → ℕ → Polarity → Type 0
-Occurs a root v p = Has a root positive v p
+use Rattle.types.specs.Places.{opposite, Occurs}
 
 -- it occurs with this polarity only
 pub record OccursOnly (a : Arena) (root v : ℕ) (p : Polarity) : Type 0 where

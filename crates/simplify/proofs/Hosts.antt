@@ -12,17 +12,18 @@ use Rattle.types.specs.declared.Counters.{Counters}
 use Rattle.types.proofs.Memories.{unique}
 use Rattle.types.proofs.Replies.{rooted-no, rooted-yes}
 use Rattle.names.specs.Table.{Name}
-use Rattle.node_store.specs.Stored.{Lent}
-use Rattle.soundness.specs.Sound.{lent-reply, judged-out}
+use Rattle.node_store.specs.Inner.Stored.{Lent}
+use Rattle.soundness.specs.Inner.Sound.{lent-reply, judged-out}
 use Rattle.soundness.specs.declared.Judged.{Judged}
 use Rattle.soundness.specs.declared.Judged.the-variants as verdict
 use Rattle.soundness.proofs.Verdicts.{lent-names, lent-refused, lent-done}
 use Rattle.simplification.specs.Passes.{Result, simplify}
 use Rattle.simplification.proofs.Demands.{demand-3}
-use Rattle.recursion.specs.Work.{TakesBackNodes}
+use Rattle.recursion.specs.Inner.Work.{TakesBackNodes}
 use Rattle.recursion.proofs.Leading.{Stopped}
 use Rattle.recursion.proofs.Hosts.{held-reply, back-reply}
-use Rattle.simplify.specs.Simplify.{Answer, answered, simplify-reply, left, Fulfilled, Promise, LeadsTo, done, stop, Simplifies, SimplifiesLent}
+use Rattle.simplify.specs.Simplify.{Answer, answered, simplify-reply, left, Fulfilled, Promise}
+use Rattle.simplify.specs.Inner.{LeadsTo, done, stop, Simplifies, SimplifiesLent}
 use Rattle.simplify.specs.declared.Simplified.{Simplified}
 use Rattle.simplify.specs.declared.Simplified.the-variants as simplified
 

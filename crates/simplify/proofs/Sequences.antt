@@ -14,16 +14,16 @@ use Rattle.types.specs.Arena.{Arena, Ext, here}
 use Rattle.types.specs.Memory.{Holds}
 use Rattle.types.specs.declared.Counters.{Counters}
 use Rattle.types.proofs.Growth.{ext-trans}
-use Rattle.node_store.specs.Stored.{InRange}
+use Rattle.node_store.specs.Inner.Stored.{InRange}
 use Rattle.node_store.specs.declared.added.Interned.{Interned}
 use Rattle.node_store.specs.declared.added.Interned.the-variants as interned
 use Rattle.simplification.specs.Pass.{pass}
 use Rattle.simplification.specs.Passes.{Taken, Result, after, unchanged, passes, simplify}
-use Rattle.recursion.specs.Work.{Stands}
-use Rattle.recursion.specs.Hosted.{LeadsOnce}
-use Rattle.pass.specs.Once.{SimplifiesOnce}
-use Rattle.recursion.specs.Hosted as once
-use Rattle.simplify.specs.Simplify.{LeadsTo, done, stop, PassRoom, MorePasses, Simplifies}
+use Rattle.recursion.specs.Inner.Work.{Stands}
+use Rattle.recursion.specs.Inner.Hosted.{LeadsOnce}
+use Rattle.pass.specs.Inner.Once.{SimplifiesOnce}
+use Rattle.recursion.specs.Inner.Hosted as once
+use Rattle.simplify.specs.Inner.{LeadsTo, done, stop, PassRoom, MorePasses, Simplifies}
 use Rattle.simplify.specs.declared.Simplified.{Simplified}
 use Rattle.simplify.specs.declared.Simplified.the-variants as simplified
 use Rattle.recursion.proofs.Leading.{stands-ext}

@@ -1,1 +1,2 @@
 pub mod Simplify
+pub mod Inner

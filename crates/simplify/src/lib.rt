@@ -6,8 +6,11 @@ use soundness::Judged;
 use soundness::judge;
 use types::Counters;
 use types::arc_ty::wide;
-ghost use Rattle.node_store.specs.Stored.{Lent, InRange};
-ghost use Rattle.simplify.specs.Simplify.{PassRoom, MorePasses, Simplifies, SimplifiesLent, Promise};
+ghost use mathlib.Core.Path.{_≡_};
+ghost use Rattle.types.specs.Out.{number};
+ghost use Rattle.node_store.specs.Inner.Stored.{Lent, InRange};
+ghost use Rattle.simplify.specs.Simplify.{simplified-out, Promise};
+ghost use Rattle.simplify.specs.Inner.{PassRoom, MorePasses, Simplifies, SimplifiesLent};
 
 // The passes that may follow the first.
 const MORE_PASSES: u32 = 5;
@@ -16,6 +19,18 @@ const MORE_PASSES: u32 = 5;
 pub enum Simplified {
     Type(u32, u32, Counters),
     Refused(u32),
+}
+
+impl Simplified {
+    // The number of a refusal, for an answer of another type.
+    pub fn refusal(self) -> u32
+        ensures { λ r. ⌜ r ≡ number (simplified-out self) ⌝ }
+    {
+        match self {
+            Simplified::Type(_, _, _) => 0,
+            Simplified::Refused(number) => number,
+        }
+    }
 }
 
 // Up to `most` passes, until one changes nothing; `made` were made before.
@@ -36,20 +51,16 @@ fn more_passes(
     let mut left = most;
     while left > 0 {
         let r = simplify_once(words, starts, last, ty);
-        match r {
-            Interned::Refused(number) => {
-                return Simplified::Refused(number);
-            }
-            Interned::Node(next, d) => {
-                left -= 1;
-                count += 1;
-                last = d;
-                if next == ty {
-                    return Simplified::Type(ty, count, last);
-                }
-                ty = next;
-            }
+        let Interned::Node(next, d) = r else {
+            return Simplified::Refused(r.refusal());
+        };
+        left -= 1;
+        count += 1;
+        last = d;
+        if next == ty {
+            return Simplified::Type(ty, count, last);
         }
+        ty = next;
     }
     Simplified::Type(ty, count, last)
 }
@@ -60,10 +71,10 @@ pub fn simplify_in(words: &mut [u32], starts: &mut [u32], c: Counters, root: u32
     ensures { λ r. ⌜ Simplifies (now (words .entry)) (now (starts .entry)) c root (now (words .exit)) (now (starts .exit)) r ⌝ }
 {
     let r = simplify_once(words, starts, c, root);
-    match r {
-        Interned::Refused(number) => Simplified::Refused(number),
-        Interned::Node(m, d) => more_passes(words, starts, d, m, MORE_PASSES, 1),
-    }
+    let Interned::Node(m, d) = r else {
+        return Simplified::Refused(r.refusal());
+    };
+    more_passes(words, starts, d, m, MORE_PASSES, 1)
 }
 
 // The same for any root; a refusal takes back the nodes that were added.

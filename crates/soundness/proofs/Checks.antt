@@ -26,10 +26,10 @@ use Rattle.types.proofs.Growth.{ext-tail, ext-length}
 use Rattle.types.proofs.Sound.{sound-well, sound-fresh, sound-more, sound-ext}
 use Rattle.types.proofs.Memories.{span-encode, arena-of-holds, unsound}
 use Rattle.types.proofs.Addresses.{length-heads, ext-flat, word-room, start-room, there, start-at, from-start}
-use Rattle.node_store.specs.Stored.{Searched, FoundIn, found-at}
+use Rattle.node_store.specs.Inner.Stored.{Searched, FoundIn, found-at}
 use Rattle.bits.specs.Bits.{Put}
-use Rattle.soundness.specs.Hash.{hash-of}
-use Rattle.soundness.specs.Sound.{is-some, is-sound, Limits, Within, Begun, Passed, Seen, Marked, Filtered, NextNode, Next}
+use Rattle.soundness.specs.Inner.Hash.{hash-of}
+use Rattle.soundness.specs.Inner.Sound.{is-some, is-sound, Limits, Within, Begun, Passed, Seen, Marked, Filtered, NextNode, Next}
 use Rattle.soundness.proofs.Hashes.{seen-start, seen-more}
 use Rattle.node_store.specs.declared.stored.Found.{Found}
 use Rattle.node_store.specs.declared.stored.Found.the-variants as found

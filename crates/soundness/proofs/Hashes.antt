@@ -17,10 +17,10 @@ use Rattle.types.proofs.Tests.{true-false}
 use Rattle.types.proofs.Growth.{at-new, at-grow}
 use Rattle.types.proofs.Sound.{find-at}
 use Rattle.types.proofs.Memories.{unique}
-use Rattle.node_store.specs.Stored.{FoundIn}
+use Rattle.node_store.specs.Inner.Stored.{FoundIn}
 use Rattle.node_store.specs.declared.stored.Found.the-variants as found
-use Rattle.soundness.specs.Hash.{mixed, hash-of}
-use Rattle.soundness.specs.Sound.{Seen, Filtered}
+use Rattle.soundness.specs.Inner.Hash.{mixed, hash-of}
+use Rattle.soundness.specs.Inner.Sound.{Seen, Filtered}
 
 -- ---- the words from i on are in the hash
 pub record Hashing (ws : List ℕ) (h i : ℕ) : Type 0 where

@@ -20,8 +20,8 @@ use Rattle.names.specs.Reply.{table-reply, table-out}
 use Rattle.names.specs.declared.Table.{Table}
 use Rattle.names.specs.declared.Table.the-variants as table
 use Rattle.names.proofs.Replies.{counted, faulty}
-use Rattle.node_store.specs.Stored.{Lent}
-use Rattle.soundness.specs.Sound.{is-some, is-sound, lent-reply, judged-out}
+use Rattle.node_store.specs.Inner.Stored.{Lent}
+use Rattle.soundness.specs.Inner.Sound.{is-some, is-sound, lent-reply, judged-out}
 use Rattle.soundness.specs.declared.Judged.{Judged}
 use Rattle.soundness.specs.declared.Judged.the-variants as verdict
 

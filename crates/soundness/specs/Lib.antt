@@ -1,2 +1,1 @@
-pub mod Hash
-pub mod Sound
+pub mod Inner

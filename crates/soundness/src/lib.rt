@@ -11,9 +11,9 @@ use types::arc_ty::Head;
 use types::arc_ty::wide;
 ghost use mathlib.Core.Path.{_≡_};
 ghost use Rattle.types.specs.Node.{below};
-ghost use Rattle.node_store.specs.Stored.{FoundIn};
-ghost use Rattle.soundness.specs.Hash.{mixed, hash-of};
-ghost use Rattle.soundness.specs.Sound.{is-sound, Limits, Within, Marked, Filtered, Next, lent-reply, judged-out};
+ghost use Rattle.node_store.specs.Inner.Stored.{FoundIn};
+ghost use Rattle.soundness.specs.Inner.Hash.{mixed, hash-of};
+ghost use Rattle.soundness.specs.Inner.Sound.{is-sound, Limits, Within, Marked, Filtered, Next, lent-reply, judged-out};
 
 // Whether every word is zero. No word ends the loop early, so that the compiler can take several in a turn.
 fn all_zero(words: &[u32]) -> bool

@@ -9,7 +9,7 @@ use native.Mathlib.Decide.{decLe}
 use lib.ListN.{length, getD, take, drop, set, length-set, length-append}
 use lib.Seq.{paste, paste-zero, paste-suc, take-paste, drop-paste, drop-drop, take-length}
 use Rattle.text_writing.specs.Text.{when, between}
-use Rattle.text_writing.specs.Writes.{Writes}
+use Rattle.text_writing.specs.Inner.Writes.{Writes}
 
 -- ---- no bytes, and no room
 module _ {b : List ℕ} {c : ℕ} where

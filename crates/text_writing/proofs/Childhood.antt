@@ -5,6 +5,7 @@ use mathlib.Core.Bool.{Bool, true}
 use mathlib.Core.List.{List}
 use native.Mathlib.Omega.{arith}
 use lib.ListN.{length, getD}
+use Rattle.words.specs.Words.{child}
 use Rattle.types.specs.Bytes.{bytes}
 use Rattle.types.specs.Kind.{disc}
 use Rattle.types.specs.Node.{tag, kind, children, encode, formed, guess}
@@ -16,11 +17,13 @@ use Rattle.types.proofs.Nodes.{guess-encode}
 use Rattle.types.proofs.Faults.{children-encode}
 use Rattle.types.proofs.Sound.{at-formed, child-lower}
 use Rattle.names.specs.Table.{split}
-use Rattle.node_store.specs.Stored.{InRange, NodeAt}
-use Rattle.node_reading.specs.Nodes.{KindAt}
+use Rattle.node_store.specs.Inner.Stored.{InRange, NodeAt}
+use Rattle.node_reading.specs.Nodes.{ChildWords}
+use Rattle.node_reading.specs.Inner.{KindAt}
+use Rattle.node_reading.proofs.Offspring.{as-many, child-is}
 use Rattle.text_writing.specs.Text.{when, parens, before}
-use Rattle.text_writing.specs.Writes.{Writes, IsFormed}
-use Rattle.text_writing.specs.Children.{ChildOf, encloses, IsChild, Encloses, Opens, Closes}
+use Rattle.text_writing.specs.Inner.Writes.{Writes, IsFormed}
+use Rattle.text_writing.specs.Inner.Children.{ChildOf, encloses, IsChild, Encloses, Opens, Closes}
 
 module _ {w s : List ℕ} {c : Counters} {n i : ℕ} (C : ChildOf w s c n i) where
   -- ---- in any arena that memory holds
@@ -45,11 +48,12 @@ module _ {w s : List ℕ} {c : Counters} {n i : ℕ} (C : ChildOf w s c n i) whe
       pub parent-formed : IsFormed ws
       parent-formed = let H = C .lent .holds in record { view = at (C .lent .view) n; words = words-of H; good = node-formed H }
 
-      pub child-there : i < length (children-in ws)
-      child-there = let q = ap length (children-of (C .lent .holds)) in omega (arith, q, C .child)
+      module _ {b : List ℕ} (D : ChildWords ws b) where
+        pub child-there : i < length b
+        child-there = let q = ap length (children-of (C .lent .holds)) in omega (arith, q, as-many D, C .child)
 
-      pub child-read : {m : ℕ} → m ≡ getD (children-in ws) i 0 → IsChild w s c n i m
-      child-read p = record { is = λ table a H. p ∙ ap (λ (l : List ℕ). getD l i 0) (children-of H) }
+        pub child-read : {m : ℕ} → m ≡ child (getD b i 0) → IsChild w s c n i m
+        child-read p = record { is = λ table a H. child-is D i p ∙ ap (λ (l : List ℕ). getD l i 0) (children-of H) }
 
       pub child-enclosed : {r : Bool} {k y m : ℕ} → r ≡ parens (tag (guess ws)) i k → KindAt w s c y k → y ≡ m → IsChild w s c n i m → Encloses w s c n i r
       unfolding encloses

@@ -5,23 +5,27 @@ use mathlib.Core.Bool.{Bool, true, false}
 use mathlib.Core.List.{List, [], _∷_, map, append-assoc}
 use native.Mathlib.Omega.{arith}
 use native.Mathlib.Nat.{le-of-suc-le-suc}
-use lib.ListN.{length, getD, take, drop, length-drop, length-append, length-replicate}
-use lib.Seq.{getD-take, getD-drop, length-take-le}
+use lib.ListN.{length, getD, take, drop, length-append, length-replicate}
+use lib.Seq.{getD-take, length-take-le}
 use Rattle.words.specs.Words.{bit, head-kind, head-open, head-dynamic, field-optional, field-name}
 use Rattle.types.specs.Bytes.{bytes}
-use Rattle.types.specs.Short.{short-text, text}
+use Rattle.types.specs.Short.{short-text}
+use Rattle.types.specs.Inner.{text}
 use Rattle.types.specs.Tyvar.{tyvar-name}
 use Rattle.primitive.specs.Primitive.{primitive-text}
 use Rattle.types.specs.Parens.{parens-in-union-member, parens-in-intersection-member, parens-in-lambda-param, parens-in-neg}
 use Rattle.types.specs.Kind as kinds
 use Rattle.types.specs.Kind.{Kind, disc}
-use Rattle.types.specs.Node.{positive, negative, primitive, list, lambda, attrset, named, Tag, members, bound, var, neg, form, tag, kind, field-of, tag-of, guess}
+use Rattle.types.specs.Node.{positive, negative, primitive, list, lambda, attrset, named, Tag, members, bound, var, neg, form, tag, kind, field-of, tag-of, encode, guess}
 use Rattle.types.specs.Fault.{children-in}
 use Rattle.types.specs.declared.short_text.ShortText.{ShortText}
 use Rattle.types.proofs.Shorts.{text-short}
 use Rattle.names.specs.Table.{Name, split, name-text}
+use Rattle.node_order.proofs.Splits.{body-lent}
+use Rattle.node_reading.specs.Nodes.{ChildWords}
+use Rattle.node_reading.proofs.Offspring.{as-many}
 use Rattle.text_writing.specs.Text.{when, between, beginning, separator, field-text, field-label, label, parens, set-ending, ending, shown}
-use Rattle.text_writing.specs.Writes.{Writes, IsFormed}
+use Rattle.text_writing.specs.Inner.Writes.{Writes, IsFormed}
 use Rattle.text_writing.proofs.Appending.{writes-nothing, writes-then, writes-three}
 use Rattle.text_writing.proofs.Tags.{said, tag-said, kind-said}
 
@@ -60,22 +64,27 @@ module _ (k : Kind) (ws : List ℕ) {n : ℕ} (p : n ≡ head-kind (getD ws 0 0)
   pub ends : (m : ℕ) → Writes b c (ending (said k ws) m) b′ e → Writes b c (ending (tag (guess ws)) m) b′ e
   ends m W = writes-as (ap (λ (t : Tag). ending t m) (sym (tag-said k ws p q))) W
 
--- ---- the texts that a body word says
-first-word : (ws : List ℕ) {x : ℕ} → x ≡ getD ws 1 0 → x ≡ getD (drop 1 ws) 0 0
-first-word ws p = p ∙ sym (getD-drop 1 ws 0 0)
+-- ---- head and body
+pub head-there : {ws : List ℕ} → IsFormed ws → 0 < length ws
+unfolding encode
+head-there F = rw (F .words) (omega arith)
 
-module _ (ws : List ℕ) {n : ℕ} (p : n ≡ head-kind (getD ws 0 0)) {x : ℕ} (w : x ≡ getD ws 1 0) {b : List ℕ} {c : ℕ} {b′ : List ℕ} {e : ℕ} where
+-- ---- the texts that a body's first word says
+first-of : (ws : List ℕ) {x : ℕ} → x ≡ getD (take (length ws - 1) (drop 1 ws)) 0 0 → x ≡ getD (drop 1 ws) 0 0
+first-of ws p = p ∙ ap (λ (d : List ℕ). getD d 0 0) (body-lent ws)
+
+module _ (ws : List ℕ) {n : ℕ} (p : n ≡ head-kind (getD ws 0 0)) {x : ℕ} (w : x ≡ getD (take (length ws - 1) (drop 1 ws)) 0 0) {b : List ℕ} {c : ℕ} {b′ : List ℕ} {e : ℕ} where
   pub begins-primitive : n ≡ 2 → (ns : List Name) {t : ShortText} → t ≡ short-text (primitive-text x) → Writes b c (text t) b′ e → Writes b c (beginning ns (tag (guess ws))) b′ e
   unfolding beginning tag-of
-  begins-primitive q ns r W = begins kinds.primitive ws p q ns (writes-as (short-is (primitive-text x) r ∙ ap primitive-text (first-word ws w)) W)
+  begins-primitive q ns r W = begins kinds.primitive ws p q ns (writes-as (short-is (primitive-text x) r ∙ ap primitive-text (first-of ws w)) W)
 
   pub begins-var : n ≡ 3 → (ns : List Name) {t : ShortText} → t ≡ short-text (tyvar-name x) → Writes b c (text t) b′ e → Writes b c (beginning ns (tag (guess ws))) b′ e
   unfolding beginning tag-of
-  begins-var q ns r W = begins kinds.ty-var ws p q ns (writes-as (short-is (tyvar-name x) r ∙ ap tyvar-name (first-word ws w)) W)
+  begins-var q ns r W = begins kinds.ty-var ws p q ns (writes-as (short-is (tyvar-name x) r ∙ ap tyvar-name (first-of ws w)) W)
 
   pub begins-name : n ≡ 9 → (t : List ℕ) → Writes b c (name-text t (field-name x)) b′ e → Writes b c (beginning (split t) (tag (guess ws))) b′ e
   unfolding beginning tag-of name-text
-  begins-name q t W = begins kinds.named ws p q (split t) (writes-as (ap (λ (y : ℕ). name-text t (field-name y)) (first-word ws w)) W)
+  begins-name q t W = begins kinds.named ws p q (split t) (writes-as (ap (λ (y : ℕ). name-text t (field-name y)) (first-of ws w)) W)
 
 -- ---- the kinds that have no such piece
 no-beginning : (ns : List Name) (t : Tag) {n : ℕ} → n ≡ disc (kind t) → (n ≡ 0 → ⊥) → (n ≡ 1 → ⊥) → (n ≡ 2 → ⊥) → (n ≡ 3 → ⊥) → (n ≡ 4 → ⊥) → (n ≡ 6 → ⊥) → (n ≡ 9 → ⊥) → (n ≡ 10 → ⊥) → beginning ns t ≡ []
@@ -159,8 +168,8 @@ module _ {ws : List ℕ} (F : IsFormed ws) {n : ℕ} (p : n ≡ head-kind (getD 
     pub ends-not : (m : ℕ) → (n ≡ 4 → ⊥) → (n ≡ 6 → ⊥) → Writes b c (ending (tag (guess ws)) m) b c
     ends-not m f4 f6 = writes-nothing (no-ending (tag (guess ws)) m (kind-said F p) f4 f6)
 
-  pub shown-all : (n ≡ 9 → ⊥) → {r : ℕ} → r ≡ length (children-in ws) → r ≡ length (shown (tag (guess ws)) (children-in ws))
-  shown-all f e = e ∙ ap length (sym (all-shown (tag (guess ws)) (children-in ws) (kind-said F p) f))
+  pub shown-all : (n ≡ 9 → ⊥) → {d : List ℕ} → ChildWords ws d → length d ≡ length (shown (tag (guess ws)) (children-in ws))
+  shown-all f D = as-many D ∙ ap length (sym (all-shown (tag (guess ws)) (children-in ws) (kind-said F p) f))
 
 pub shown-none : (ws : List ℕ) {n : ℕ} → n ≡ head-kind (getD ws 0 0) → n ≡ 9 → 0 ≡ length (shown (tag (guess ws)) (children-in ws))
 unfolding shown tag-of
@@ -219,56 +228,51 @@ label-out ns (w ∷ l) zero h = absurd (omega arith)
 label-out ns (w ∷ l) (suc i) h = label-out ns l i (le-of-suc-le-suc h)
 
 -- how many body words are fields, and which
-abbrev many : List ℕ → ℕ
-many ws = length (drop 1 ws) - bit (head-dynamic (getD ws 0 0))
+module _ (h : ℕ) (d : List ℕ) {m : ℕ} (f : m ≡ length d - bit (head-dynamic h)) (i : ℕ) where
+  many-fields : length (take (length d - bit (head-dynamic h)) d) ≡ length d - bit (head-dynamic h)
+  many-fields = length-take-le (length d - bit (head-dynamic h)) d (omega arith)
 
-many-fields : (ws : List ℕ) → length (take (many ws) (drop 1 ws)) ≡ many ws
-many-fields ws = length-take-le (many ws) (drop 1 ws) (omega arith)
+  pub field-in : i < m → i < length d
+  field-in l = omega (arith, f, l)
 
-set-label : (ws : List ℕ) {n : ℕ} → n ≡ head-kind (getD ws 0 0) → n ≡ 6 → (ns : List Name) (i : ℕ) → field-label ns (map field-of (take (many ws) (drop 1 ws))) i ≡ label ns (tag (guess ws)) i
-unfolding label tag-of
-set-label ws p q ns i = ap (λ (t : Tag). label ns t i) (sym (tag-said kinds.attr-set ws p q))
+  module _ (ns : List Name) {b : List ℕ} {c : ℕ} {b′ : List ℕ} {e : ℕ} where
+    pub labels-field : i < m → Writes b c (field-text ns (field-optional (getD d i 0)) (field-name (getD d i 0))) b′ e → Writes b c (label ns (tag-of kinds.attr-set (head-open h) (head-dynamic h) d) i) b′ e
+    unfolding label tag-of
+    labels-field l W =
+        let k : i < length d - bit (head-dynamic h) = omega (arith, f, l) in
+        let r : getD d i 0 ≡ getD (take (length d - bit (head-dynamic h)) d) i 0 = sym (getD-take (length d - bit (head-dynamic h)) d i 0 k) in
+        writes-as (ap (λ (y : ℕ). field-text ns (field-optional y) (field-name y)) r ∙ label-in ns (take (length d - bit (head-dynamic h)) d) i (omega (arith, many-fields, k))) W
 
-module _ (ws : List ℕ) {n : ℕ} (p : n ≡ head-kind (getD ws 0 0)) (q : n ≡ 6) (i : ℕ) {m : ℕ} (f : m ≡ length (drop 1 ws) - bit (head-dynamic (getD ws 0 0))) (ns : List Name)
-    {b : List ℕ} {c : ℕ} {b′ : List ℕ} {e : ℕ} where
-  pub labels-field : i < m → {x : ℕ} → x ≡ getD ws (i + 1) 0 → Writes b c (field-text ns (field-optional x) (field-name x)) b′ e → Writes b c (label ns (tag (guess ws)) i) b′ e
-  labels-field h {x} w W =
-      let k : i < many ws = omega (arith, f, h) in
-      let one : i + 1 ≡ 1 + i = omega arith in
-      let r : x ≡ getD (take (many ws) (drop 1 ws)) i 0
-      = w ∙ ap (λ (j : ℕ). getD ws j 0) one ∙ sym (getD-drop 1 ws i 0) ∙ sym (getD-take (many ws) (drop 1 ws) i 0 k) in
-      let l = many-fields ws in
-      writes-as (ap (λ (y : ℕ). field-text ns (field-optional y) (field-name y)) r ∙ label-in ns (take (many ws) (drop 1 ws)) i (omega (arith, l, k)) ∙ set-label ws p q ns i) W
+    pub labels-dynamic : m ≤ i → Writes b c (bytes "_: ") b′ e → Writes b c (label ns (tag-of kinds.attr-set (head-open h) (head-dynamic h) d) i) b′ e
+    unfolding label tag-of
+    labels-dynamic l W = writes-as (label-out ns (take (length d - bit (head-dynamic h)) d) i (omega (arith, many-fields, f, l))) W
 
-  pub labels-dynamic : m ≤ i → Writes b c (bytes "_: ") b′ e → Writes b c (label ns (tag (guess ws)) i) b′ e
-  labels-dynamic h W =
-      let l = many-fields ws in
-      writes-as (label-out ns (take (many ws) (drop 1 ws)) i (omega (arith, l, f, h)) ∙ set-label ws p q ns i) W
+pub labels-set : (ws : List ℕ) {n : ℕ} → n ≡ head-kind (getD ws 0 0) → n ≡ 6 → (ns : List Name) (i : ℕ) {b : List ℕ} {c : ℕ} {b′ : List ℕ} {e : ℕ}
+    → Writes b c (label ns (tag-of kinds.attr-set (head-open (getD ws 0 0)) (head-dynamic (getD ws 0 0)) (take (length ws - 1) (drop 1 ws))) i) b′ e → Writes b c (label ns (tag (guess ws)) i) b′ e
+labels-set ws p q ns i W =
+    writes-as
+    (ap (λ (d : List ℕ). label ns (tag-of kinds.attr-set (head-open (getD ws 0 0)) (head-dynamic (getD ws 0 0)) d) i) (body-lent ws) ∙ ap (λ (t : Tag). label ns t i) (sym (tag-said kinds.attr-set ws p q)))
+    W
 
 -- ---- how many words of a set are fields
-module _ (ws : List ℕ) {d : Bool} {x : ℕ} (p : d ≡ head-dynamic x) (w : x ≡ getD ws 0 0) where
-  pub fields-dynamic-none : d ≡ true → length ws < 2 → 0 ≡ length (drop 1 ws) - bit (head-dynamic (getD ws 0 0))
-  fields-dynamic-none q h = let e : bit (head-dynamic (getD ws 0 0)) ≡ 1 = ap bit (ap head-dynamic (sym w) ∙ sym p ∙ q) in omega (arith, e, length-drop 1 ws)
+module _ (h : ℕ) (d : List ℕ) {y : Bool} (p : y ≡ head-dynamic h) where
+  pub fields-dynamic : y ≡ true → length d - 1 ≡ length d - bit (head-dynamic h)
+  fields-dynamic q = let e : bit (head-dynamic h) ≡ 1 = ap bit (sym p ∙ q) in omega (arith, e)
 
-  pub fields-dynamic : d ≡ true → 2 ≤ length ws → length ws - 2 ≡ length (drop 1 ws) - bit (head-dynamic (getD ws 0 0))
-  fields-dynamic q h = let e : bit (head-dynamic (getD ws 0 0)) ≡ 1 = ap bit (ap head-dynamic (sym w) ∙ sym p ∙ q) in omega (arith, e, length-drop 1 ws)
-
-  pub fields-none : d ≡ false → length ws < 1 → 0 ≡ length (drop 1 ws) - bit (head-dynamic (getD ws 0 0))
-  fields-none q h = let e : bit (head-dynamic (getD ws 0 0)) ≡ 0 = ap bit (ap head-dynamic (sym w) ∙ sym p ∙ q) in omega (arith, e, length-drop 1 ws)
-
-  pub fields-all : d ≡ false → 1 ≤ length ws → length ws - 1 ≡ length (drop 1 ws) - bit (head-dynamic (getD ws 0 0))
-  fields-all q h = let e : bit (head-dynamic (getD ws 0 0)) ≡ 0 = ap bit (ap head-dynamic (sym w) ∙ sym p ∙ q) in omega (arith, e, length-drop 1 ws)
+  pub fields-all : y ≡ false → length d ≡ length d - bit (head-dynamic h)
+  fields-all q = let e : bit (head-dynamic h) ≡ 0 = ap bit (sym p ∙ q) in omega (arith, e)
 
 -- ---- what ends a set
-module _ (ws : List ℕ) {o : Bool} {x : ℕ} (p : o ≡ head-open x) (w : x ≡ getD ws 0 0) where
-  as-open : {v : Bool} → o ≡ v → v ≡ head-open (getD ws 0 0)
-  as-open q = sym q ∙ p ∙ ap head-open w
-
-  pub ends-open : o ≡ true → {m : ℕ} → m ≡ length (children-in ws) → {b : List ℕ} {c : ℕ} {b₁ : List ℕ} {n : ℕ} {b′ : List ℕ} {e : ℕ} → Writes b c (between (bytes ", ") m) b₁ n → Writes b₁ n (bytes "... }") b′ e → Writes b c (set-ending (head-open (getD ws 0 0)) (length (children-in ws))) b′ e
+module _ (h : ℕ) {o : Bool} (p : o ≡ head-open h) (m : ℕ) {b : List ℕ} {c : ℕ} {b′ : List ℕ} {e : ℕ} where
+  pub ends-open : o ≡ true → {b₁ : List ℕ} {n : ℕ} → Writes b c (between (bytes ", ") m) b₁ n → Writes b₁ n (bytes "... }") b′ e → Writes b c (set-ending (head-open h) m) b′ e
   unfolding set-ending
-  ends-open q {m} f W U =
-      writes-as (sym (append-assoc (between (bytes ", ") m) (bytes "...") (bytes " }")) ∙ (λ i. set-ending (as-open q i) (f i))) (writes-then W U)
+  ends-open q W U = writes-as (sym (append-assoc (between (bytes ", ") m) (bytes "...") (bytes " }")) ∙ ap (λ (s : Bool). set-ending s m) (sym q ∙ p)) (writes-then W U)
 
-  pub ends-closed : o ≡ false → {b : List ℕ} {c : ℕ} {b′ : List ℕ} {e : ℕ} → Writes b c (bytes " }") b′ e → Writes b c (set-ending (head-open (getD ws 0 0)) (length (children-in ws))) b′ e
+  pub ends-closed : o ≡ false → Writes b c (bytes " }") b′ e → Writes b c (set-ending (head-open h) m) b′ e
   unfolding set-ending
-  ends-closed q W = writes-as (ap (λ (s : Bool). set-ending s (length (children-in ws))) (as-open q)) W
+  ends-closed q W = writes-as (ap (λ (s : Bool). set-ending s m) (sym q ∙ p)) W
+
+pub ends-set : (ws : List ℕ) {n : ℕ} → n ≡ head-kind (getD ws 0 0) → n ≡ 6 → {d : List ℕ} → ChildWords ws d → {b : List ℕ} {c : ℕ} {b′ : List ℕ} {e : ℕ}
+    → Writes b c (set-ending (head-open (getD ws 0 0)) (length d)) b′ e → Writes b c (ending (tag (guess ws)) (length (children-in ws))) b′ e
+unfolding ending tag-of
+ends-set ws p q D W = ends kinds.attr-set ws p q (length (children-in ws)) (writes-as (ap (set-ending (head-open (getD ws 0 0))) (as-many D)) W)

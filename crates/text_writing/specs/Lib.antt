@@ -1,3 +1,2 @@
 pub mod Text
-pub mod Writes
-pub mod Children
+pub mod Inner

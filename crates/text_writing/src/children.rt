@@ -2,19 +2,21 @@
 use crate::append_if;
 use crate::pieces::in_parens;
 use crate::pieces::write_before;
-use node_reading::children::child_at;
+use node_reading::children::child_words;
 use node_reading::nodes::kind_at;
 use node_store::stored::node_at;
 use types::Counters;
+use types::arc_ty::child;
 use types::arc_ty::wide;
-ghost use Rattle.text_writing.specs.Children.{ChildOf, IsChild, Encloses, Opens, Closes};
+ghost use Rattle.text_writing.specs.Inner.Children.{ChildOf, IsChild, Encloses, Opens, Closes};
 
 // The number of child i of node n.
 pub fn child_of(words: &[u32], starts: &[u32], c: Counters, n: u32, i: usize) -> u32
     requires { ⌜ ChildOf (now words) (now starts) c n i ⌝ }
     ensures { λ r. ⌜ IsChild (now (words .entry)) (now (starts .entry)) c n i r ⌝ }
 {
-    child_at(node_at(words, starts, c, wide(n)), i)
+    let body = child_words(node_at(words, starts, c, wide(n)));
+    child(body[i])
 }
 
 // Whether it stands in parentheses.

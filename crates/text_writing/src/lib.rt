@@ -5,7 +5,7 @@ pub mod children;
 pub mod pieces;
 
 ghost use Rattle.text_writing.specs.Text.{when, between};
-ghost use Rattle.text_writing.specs.Writes.{Writes};
+ghost use Rattle.text_writing.specs.Inner.Writes.{Writes};
 
 // Writes the bytes behind the first `count`.
 pub fn append(text: &mut [u8], count: usize, bytes: &[u8]) -> usize

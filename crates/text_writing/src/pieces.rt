@@ -3,7 +3,7 @@ use crate::append;
 use crate::append_after;
 use crate::append_if;
 use names::name_at;
-use node_reading::children::child_count;
+use node_reading::children::child_words;
 use node_reading::nodes::kind_in;
 use primitive::PrimitiveTy;
 use types::arc_ty::Head;
@@ -17,24 +17,25 @@ use types::attrset::field_optional;
 use types::short_text::ShortText;
 ghost use mathlib.Core.Path.{_≡_};
 ghost use Prim.Native.Nat.{_-_, _≤_};
-ghost use lib.ListN.{length, getD, drop};
+ghost use lib.ListN.{length, getD};
 ghost use Rattle.words.specs.Words.{bit, head-open, head-dynamic, field-optional, field-name};
-ghost use Rattle.types.specs.Short.{text as bytes-of};
-ghost use Rattle.types.specs.Node.{tag, guess};
+ghost use Rattle.types.specs.Inner.{text as bytes-of};
+ghost use Rattle.types.specs.Kind.{attr-set};
+ghost use Rattle.types.specs.Node.{tag, tag-of, guess};
 ghost use Rattle.types.specs.Fault.{children-in};
 ghost use Rattle.names.specs.Table.{split, name-text};
 ghost use Rattle.text_writing.specs.Text.{between, beginning, separator, field-text, label, parens, before, set-ending, ending};
 ghost use Rattle.text_writing.specs.Text.{shown};
-ghost use Rattle.text_writing.specs.Writes.{Writes, IsFormed};
+ghost use Rattle.text_writing.specs.Inner.Writes.{Writes, IsFormed};
 
-// Word i of a node, 0 past the last.
-fn word_at(node: &[u32], i: usize) -> u32
-    ensures { λ r. ⌜ r ≡ getD (now (node .entry)) i 0 ⌝ }
+// The first word of a body, 0 where it has none.
+fn first_word(body: &[u32]) -> u32
+    ensures { λ r. ⌜ r ≡ getD (now (body .entry)) 0 0 ⌝ }
 {
-    if i < node.len() {
-        return node[i];
+    if body.len() == 0 {
+        return 0;
     }
-    0
+    body[0]
 }
 
 // A short text: a primitive type, a type variable, a number.
@@ -61,6 +62,7 @@ pub fn write_beginning(table: &[u8], node: &[u32], text: &mut [u8], count: usize
         (now (text .exit)) r ⌝ }
 {
     let kind = kind_in(node);
+    let body = &node[1..];
     if kind == Head::BOTTOM {
         return append(text, count, b"never");
     }
@@ -69,12 +71,12 @@ pub fn write_beginning(table: &[u8], node: &[u32], text: &mut [u8], count: usize
     }
     if kind == Head::PRIMITIVE {
         let primitive = PrimitiveTy {
-            code: word_at(node, 1),
+            code: first_word(body),
         };
         return write_short(text, count, primitive.text());
     }
     if kind == Head::TY_VAR {
-        return write_short(text, count, tyvar_name(word_at(node, 1)));
+        return write_short(text, count, tyvar_name(first_word(body)));
     }
     if kind == Head::LIST {
         return append(text, count, b"[");
@@ -83,7 +85,7 @@ pub fn write_beginning(table: &[u8], node: &[u32], text: &mut [u8], count: usize
         return append(text, count, b"{ ");
     }
     if kind == Head::NAMED {
-        return write_name(table, text, count, word_at(node, 1));
+        return write_name(table, text, count, first_word(body));
     }
     if kind == Head::NEG {
         return append(text, count, b"~");
@@ -113,22 +115,16 @@ fn write_separator(node: &[u32], i: usize, text: &mut [u8], count: usize) -> usi
 }
 
 // How many body words of a set are fields.
-fn field_count(node: &[u32]) -> usize
-    ensures { λ r. ⌜ r ≡ length (drop 1 (now (node .entry))) - bit (head-dynamic (getD (now (node .entry)) 0 0)) ⌝ }
+fn field_count(head: Head, body: &[u32]) -> usize
+    ensures { λ r. ⌜ r ≡ length (now (body .entry)) - bit (head-dynamic (head .word)) ⌝ }
 {
-    let head = Head {
-        word: word_at(node, 0),
-    };
     if head.dynamic() {
-        if node.len() < 2 {
+        if body.len() == 0 {
             return 0;
         }
-        return node.len() - 2;
+        return body.len() - 1;
     }
-    if node.len() < 1 {
-        return 0;
-    }
-    node.len() - 1
+    body.len()
 }
 
 // The name in a field word, with what stands between it and the field's type.
@@ -141,6 +137,24 @@ fn write_field(table: &[u8], word: u32, text: &mut [u8], count: usize) -> usize
     append(text, marked, b": ")
 }
 
+// What names child i of a set.
+fn write_set_label(
+    table: &[u8],
+    head: Head,
+    body: &[u32],
+    i: usize,
+    text: &mut [u8],
+    count: usize,
+) -> usize
+    ensures { λ r. ⌜ Writes (now (text .entry)) count (label (split (now (table .entry)))
+        (tag-of attr-set (head-open (head .word)) (head-dynamic (head .word)) (now (body .entry))) i) (now (text .exit)) r ⌝ }
+{
+    if i < field_count(head, body) {
+        return write_field(table, body[i], text, count);
+    }
+    append(text, count, b"_: ")
+}
+
 // What names child i.
 fn write_label(table: &[u8], node: &[u32], i: usize, text: &mut [u8], count: usize) -> usize
     requires { ⌜ IsFormed (now node) ⌝ }
@@ -148,11 +162,8 @@ fn write_label(table: &[u8], node: &[u32], i: usize, text: &mut [u8], count: usi
         (now (text .exit)) r ⌝ }
 {
     if kind_in(node) == Head::ATTR_SET {
-        if i < field_count(node) {
-            let at = i + 1;
-            return write_field(table, word_at(node, at), text, count);
-        }
-        return append(text, count, b"_: ");
+        let head = Head { word: node[0] };
+        return write_set_label(table, head, &node[1..], i, text, count);
     }
     count
 }
@@ -199,15 +210,12 @@ pub fn write_before(
 }
 
 // What ends the text of a set.
-fn write_set_ending(node: &[u32], text: &mut [u8], count: usize) -> usize
-    ensures { λ r. ⌜ Writes (now (text .entry)) count
-        (set-ending (head-open (getD (now (node .entry)) 0 0)) (length (children-in (now (node .entry))))) (now (text .exit)) r ⌝ }
+fn write_set_ending(head: Head, body: &[u32], text: &mut [u8], count: usize) -> usize
+    ensures { λ r. ⌜ Writes (now (text .entry)) count (set-ending (head-open (head .word)) (length (now (body .entry))))
+        (now (text .exit)) r ⌝ }
 {
-    let head = Head {
-        word: word_at(node, 0),
-    };
     if head.opened() {
-        let separated = append_after(text, count, child_count(node), b", ");
+        let separated = append_after(text, count, body.len(), b", ");
         return append(text, separated, b"... }");
     }
     append(text, count, b" }")
@@ -224,7 +232,8 @@ pub fn write_ending(node: &[u32], text: &mut [u8], count: usize) -> usize
         return append(text, count, b"]");
     }
     if kind == Head::ATTR_SET {
-        return write_set_ending(node, text, count);
+        let head = Head { word: node[0] };
+        return write_set_ending(head, child_words(node), text, count);
     }
     count
 }
@@ -237,5 +246,5 @@ pub fn shown_count(node: &[u32]) -> usize
     if kind_in(node) == Head::NAMED {
         return 0;
     }
-    child_count(node)
+    child_words(node).len()
 }

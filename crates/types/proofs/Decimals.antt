@@ -5,9 +5,10 @@ use mathlib.Core.List.{[], _∷_, _++_}
 use native.Mathlib.Omega.{arith}
 use native.Mathlib.Decide.{decLt}
 use native.Mathlib.Nat.{pow-suc}
-use lib.ListN.{length, length-append}
+use lib.ListN.{length-append}
 use borrow.Author.Tests.{lt-ltb, le-ltb}
 use Rattle.types.specs.Decimal.{digit, digits, decimal}
+use Rattle.types.specs.Theorems.{DecimalSmall, DecimalStep, DecimalLength}
 
 digits-small : (k n : ℕ) → n < 10 → digits (suc k) n ≡ digit n ∷ []
 unfolding digits
@@ -30,15 +31,15 @@ digits-all (suc k) (suc j) n h g =
           cc (digits-step k n l, digits-step j n l)
     ]
 
-pub decimal-small : (n : ℕ) → n < 10 → decimal n ≡ digit n ∷ []
+pub decimal-small : DecimalSmall
 unfolding decimal
 decimal-small n h = digits-small n n h
 
-pub decimal-step : (n : ℕ) → 10 ≤ n → decimal n ≡ decimal (n / 10) ++ (digit (n % 10) ∷ [])
+pub decimal-step : DecimalStep
 unfolding decimal
 decimal-step n h = cc (digits-step n n h, digits-all n (suc (n / 10)) (n / 10) (omega arith) (omega arith))
 
-pub decimal-length : (k n : ℕ) → n < 10 ^ suc k → length (decimal n) ≤ suc k
+pub decimal-length : DecimalLength
 decimal-length zero n h = rw (decimal-small n h) (omega arith)
 decimal-length (suc k) n h =
     elim (decLt n 10) [

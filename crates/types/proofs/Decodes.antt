@@ -6,6 +6,7 @@ use mathlib.Core.List.{List}
 use native.Mathlib.Omega.{arith}
 use Rattle.types.specs.Out.{Out, ok, refuse, number}
 use Rattle.types.specs.Node.{Node, tag, names, encode, formed, linked, rising, well, guess, is-words, decode, IsNode}
+use Rattle.types.specs.Theorems.{DecodeOk, OkDecode, DecodeThree, DecodeFour, DecodeFive}
 use Rattle.types.proofs.Tests.{and-true, both, not-true, numbers-true, numbers-if}
 use Rattle.types.proofs.Nodes.{guess-encode}
 
@@ -48,48 +49,43 @@ module _ (table nodes : ℕ) (ws : List ℕ) where
   unfolding decode answer
   by-guess = refl
 
-  -- no formed node has these words
-  pub decode-three : ((x : Node) → formed x ≡ true → ws ≡ encode x → ⊥) → decode table nodes ws ≡ refuse 3
-  unfolding answer
-  decode-three f = by-guess ∙ rw (not-true (is-words ws (guess ws)) (λ e. let p = words-is ws (guess ws) e in f (guess ws) (p .0) (p .1)))
+  by-node : (x : Node) → formed x ≡ true → ws ≡ encode x → decode table nodes ws ≡ answer x true (linked table nodes x) (rising (names (tag x)))
+  by-node x e q =
+      by-guess
+      ∙ ap (λ (y : Node). answer y (is-words ws y) (linked table nodes y) (rising (names (tag y)))) (guess-words ws x e q)
+      ∙ ap (λ (b : Bool). answer x b (linked table nodes x) (rising (names (tag x)))) (is-words-yes ws x e q)
 
-  module _ (x : Node) (e : formed x ≡ true) (q : ws ≡ encode x) where
-    by-node : decode table nodes ws ≡ answer x true (linked table nodes x) (rising (names (tag x)))
-    by-node =
-        by-guess
-        ∙ ap (λ (y : Node). answer y (is-words ws y) (linked table nodes y) (rising (names (tag y)))) (guess-words ws x e q)
-        ∙ ap (λ (b : Bool). answer x b (linked table nodes x) (rising (names (tag x)))) (is-words-yes ws x e q)
+pub decode-three : DecodeThree
+unfolding answer
+decode-three table nodes ws f = by-guess table nodes ws ∙ rw (not-true (is-words ws (guess ws)) (λ e. let p = words-is ws (guess ws) e in f (guess ws) (p .0) (p .1)))
 
-    pub decode-four : linked table nodes x ≡ false → decode table nodes ws ≡ refuse 4
-    unfolding answer
-    decode-four l = by-node ∙ rw l
+pub decode-four : DecodeFour
+unfolding answer
+decode-four table nodes ws x e q l = by-node table nodes ws x e q ∙ rw l
 
-    pub decode-five : linked table nodes x ≡ true → rising (names (tag x)) ≡ false → decode table nodes ws ≡ refuse 5
-    unfolding answer
-    decode-five l r = by-node ∙ rw (l, r)
+pub decode-five : DecodeFive
+unfolding answer
+decode-five table nodes ws x e q l r = by-node table nodes ws x e q ∙ rw (l, r)
 
-    decode-node : linked table nodes x ≡ true → rising (names (tag x)) ≡ true → decode table nodes ws ≡ ok x
-    unfolding answer
-    decode-node l r = by-node ∙ rw (l, r)
+-- decode after encode
+pub decode-ok : DecodeOk
+unfolding answer
+decode-ok table nodes ws x N = let W = well-parts table nodes x (N .good) in by-node table nodes ws x (W .formed-so) (N .words) ∙ rw (W .linked-so, W .rising-so)
 
-  -- decode after encode
-  pub decode-ok : (x : Node) → IsNode table nodes ws x → decode table nodes ws ≡ ok x
-  decode-ok x N = let W = well-parts table nodes x (N .good) in decode-node x (W .formed-so) (N .words) (W .linked-so) (W .rising-so)
-
-  -- encode after decode
-  pub ok-decode : (x : Node) → decode table nodes ws ≡ ok x → IsNode table nodes ws x
-  unfolding answer
-  ok-decode x e = go (is-words ws (guess ws)) refl (linked table nodes (guess ws)) refl (rising (names (tag (guess ws)))) refl (sym by-guess ∙ e)
-    where
-      go : (b : Bool) → is-words ws (guess ws) ≡ b → (l : Bool) → linked table nodes (guess ws) ≡ l → (r : Bool) → rising (names (tag (guess ws))) ≡ r → answer (guess ws) b l r ≡ ok x → IsNode table nodes ws x
-      go false p l q r s h = let z : _≡_ {A = ℕ} 0 1 = cc in absurd (omega arith)
-      go true p false q r s h = let z : _≡_ {A = ℕ} 0 1 = cc in absurd (omega arith)
-      go true p true q false s h = let z : _≡_ {A = ℕ} 0 1 = cc in absurd (omega arith)
-      go true p true q true s h =
-          let g : guess ws ≡ x = cc in
-          let w = words-is ws (guess ws) p in
-          let W : Well table nodes (guess ws) = record { formed-so = w .0; linked-so = q; rising-so = s } in
-          record { words = w .1 ∙ ap encode g; good = rw (← g) (parts-well table nodes (guess ws) W) }
+-- encode after decode
+pub ok-decode : OkDecode
+unfolding answer
+ok-decode table nodes ws x e = go (is-words ws (guess ws)) refl (linked table nodes (guess ws)) refl (rising (names (tag (guess ws)))) refl (sym (by-guess table nodes ws) ∙ e)
+  where
+    go : (b : Bool) → is-words ws (guess ws) ≡ b → (l : Bool) → linked table nodes (guess ws) ≡ l → (r : Bool) → rising (names (tag (guess ws))) ≡ r → answer (guess ws) b l r ≡ ok x → IsNode table nodes ws x
+    go false p l q r s h = let z : _≡_ {A = ℕ} 0 1 = cc in absurd (omega arith)
+    go true p false q r s h = let z : _≡_ {A = ℕ} 0 1 = cc in absurd (omega arith)
+    go true p true q false s h = let z : _≡_ {A = ℕ} 0 1 = cc in absurd (omega arith)
+    go true p true q true s h =
+        let g : guess ws ≡ x = cc in
+        let w = words-is ws (guess ws) p in
+        let W : Well table nodes (guess ws) = record { formed-so = w .0; linked-so = q; rising-so = s } in
+        record { words = w .1 ∙ ap encode g; good = rw (← g) (parts-well table nodes (guess ws) W) }
 
 -- ---- decode by its number, 0 for a node
 pub record Faultless (table nodes : ℕ) (ws : List ℕ) : Type 0 where

@@ -13,12 +13,13 @@ use Rattle.words.specs.Words.{bit, head-word, head-kind, head-open, head-dynami
 use Rattle.types.specs.Kind as kinds
 use Rattle.types.specs.Kind.{Kind, disc, kind-of, body-count, body-of}
 use Rattle.types.specs.Out.{number}
-use Rattle.types.specs.Node.{positive, negative, Field, field, primitive, list, lambda, attrset, named, Tag, members, bound, var, neg, form, Node, node, tag, children, kind, data-of, field-names, names, child-words, body, head-of, encode, below, matched, formed, linked, rising, field-of, tag-of, children-of, guess-kind, guess, is-words, decode}
+use Rattle.types.specs.Node.{positive, negative, Field, field, primitive, list, lambda, attrset, named, Tag, members, bound, var, neg, form, Node, node, tag, children, kind, data-of, field-names, names, child-words, body, head-of, encode, below, matched, formed, linked, rising, field-of, tag-of, children-of, guess-kind, guess, is-words}
 use Rattle.types.specs.Fault.{flags-fit, kind-fits, head-fits, field-part, each-zero, body-fits, kind-body-fits, fits, kind-children, kind-names, children-in, names-in, first, fault}
+use Rattle.types.specs.Theorems.{ChildrenEncode, FitsWords, FaultDecode}
 use Rattle.types.proofs.Tests.{true-false, and-true, both, same-truth}
 use Rattle.types.proofs.Lists.{below-cons, below-map}
 use Rattle.types.proofs.KindNumbers.{kind-of-disc, disc-kind-of}
-use Rattle.words.proofs.Words.{head-of-fields, field-of-fields, field-optional-made, field-zero-made, child-zero-made, child-of-fields}
+use Rattle.words.proofs.Words.{head-of-fields, field-of-fields, field-made, child-zero-made, child-of-fields}
 use Rattle.types.proofs.Nodes.{nil, cons, length-child-words, Formed, formed-parts, parts-formed, encode-kind, encode-open, encode-dynamic, encode-zero, encode-count, length-encode, guess-encode}
 use Rattle.types.proofs.Decodes.{is-words-yes, words-is, answer, by-guess}
 
@@ -46,7 +47,7 @@ fields-zero (f ∷ fs) [] n e = each-nil field-zero
 fields-zero (field o m ∷ fs) (c ∷ cs) n e =
     let p = below-cons (2 ^ 12) c cs e in
     let q = below-cons (2 ^ 8) m (field-names fs) n in
-    each-more field-zero (field-word o m c) _ (field-zero-made o m c (record { few-names = q .0; few-nodes = p .0 })) (fields-zero fs cs (q .1) (p .1))
+    each-more field-zero (field-word o m c) _ (field-made o m c (record { few-names = q .0; few-nodes = p .0 }) .zero-back) (fields-zero fs cs (q .1) (p .1))
 
 rest-zero : (fs : List Field) (cs : List ℕ) → below (2 ^ 12) cs ≡ true → each-zero child-zero (drop (length fs) (child-words fs cs)) ≡ true
 unfolding child-words
@@ -93,7 +94,7 @@ body-of-node (form (named n)) (c ∷ []) F =
     let p = below-cons (2 ^ 12) c [] (F .few-nodes) in
     let q = below-cons (2 ^ 8) n [] (F .few-names) in
     let m : FieldFits n c = record { few-names = q .0; few-nodes = p .0 } in
-    both (ap not (field-optional-made false n c m)) (both (each-more field-zero (field-word false n c) [] (field-zero-made false n c m) refl) refl)
+    both (ap not (field-made false n c m .optional-back)) (both (each-more field-zero (field-word false n c) [] (field-made false n c m .zero-back) refl) refl)
 body-of-node (form (named n)) (c ∷ d ∷ cs) F = absurd (omega (arith, eqb-true (suc (suc (length cs))) 1 (F .counted)))
 
 -- ---- what `fits` says, part by part
@@ -275,7 +276,7 @@ fit-words h b l F =
     rw e (is-words-yes (h ∷ b) (node t cs) (made-formed o d b l k t cs (F .counted) M) w)
 
 -- number 3, both ways
-pub fits-words : (ws : List ℕ) → below (2 ^ 32) ws ≡ true → is-words ws (guess ws) ≡ fits ws
+pub fits-words : FitsWords
 unfolding fits
 fits-words [] l = same-truth (is-words [] (guess [])) false (λ e. let p = words-is [] (guess []) e in absurd (omega (arith, ap length (p .1), length-encode (guess [])))) (λ e. absurd (true-false (sym e)))
 fits-words (h ∷ b) l =
@@ -294,7 +295,7 @@ children-guess (h ∷ b) = go (kind-of (head-kind h))
     go (some k) = refl
 
 -- the children that a formed node's words hold are the node's
-pub children-encode : (x : Node) → formed x ≡ true → children-in (encode x) ≡ children x
+pub children-encode : ChildrenEncode
 children-encode x e = sym (children-guess (encode x)) ∙ ap children (guess-encode x e)
 
 kind-names-so : (k : Kind) (o d : Bool) (b : List ℕ) → body-count k d (length b) ≡ true → names (tag-of k o d b) ≡ map field-name (field-part (body-of k) d b)
@@ -342,7 +343,7 @@ first-fits table nodes (h ∷ b) true e =
     ∙ (λ i. first true (below nodes (children-guess (h ∷ b) i) && below table (n i)) (rising (n i)))
 
 -- the first of 3, 4 and 5, read off field by field, is `decode`'s
-pub fault-decode : (table nodes : ℕ) (ws : List ℕ) → below (2 ^ 32) ws ≡ true → number (decode table nodes ws) ≡ fault table nodes ws
+pub fault-decode : FaultDecode
 unfolding fault
 fault-decode table nodes ws l =
     ap number (by-guess table nodes ws)

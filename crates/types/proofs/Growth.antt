@@ -9,6 +9,7 @@ use lib.Dec.{eqb}
 use borrow.Author.Tests.{eq-eqb, ne-eqb, eqb-true, eqb-false}
 use Rattle.types.specs.Node.{Node}
 use Rattle.types.specs.Arena.{Arena, at, rec, Ext, here, more}
+use Rattle.types.specs.Theorems.{ExtAt, ExtRec}
 
 pub ext-tail : {x : Node} {b a : Arena} → Ext (x ∷ b) a → Ext b a
 ext-tail {x} here = more x here
@@ -41,11 +42,11 @@ module _ {ℓ} {Y : Type ℓ} (step : Arena → Node → (ℕ → Y) → Y) (y :
   rec-new x s = rw (rec, eq-eqb (length s) (length s) refl)
 
 -- ---- any number of nodes more
-pub ext-at : (b a : Arena) → Ext b a → (n : ℕ) → n < length b → at a n ≡ at b n
+pub ext-at : ExtAt
 ext-at b a here n l = refl
 ext-at b a (more {a = d} x e) n l = let h = ext-length b d e in at-grow x d n (omega arith) ∙ ext-at b d e n l
 
-pub ext-rec {ℓ} : {Y : Type ℓ} (step : Arena → Node → (ℕ → Y) → Y) (y : Y) (b a : Arena) → Ext b a → (n : ℕ) → n < length b → rec step y a n ≡ rec step y b n
+pub ext-rec {ℓ} : {Y : Type ℓ} (step : Arena → Node → (ℕ → Y) → Y) (y : Y) → ExtRec step y
 ext-rec step y b a here n l = refl
 ext-rec step y b a (more {a = d} x e) n l = let h = ext-length b d e in rec-grow step y x d n (omega arith) ∙ ext-rec step y b d e n l
 

@@ -6,8 +6,9 @@ use mathlib.Core.Option.{some}
 use native.Mathlib.Omega.{arith}
 use lib.ListN.{getElem?}
 use Rattle.types.specs.Kind.{Kind, kinds, bottom, top, primitive, ty-var, list, lambda, attr-set, union, intersection, named, neg, disc, kind-of}
+use Rattle.types.specs.Theorems.{KindOfDisc, DiscKindOf}
 
-pub kind-of-disc : (k : Kind) → kind-of (disc k) ≡ some k
+pub kind-of-disc : KindOfDisc
 unfolding kind-of
 kind-of-disc bottom = refl
 kind-of-disc top = refl
@@ -44,7 +45,7 @@ ordered-at i [] o n k e = let z : _≡_ {A = ℕ} 0 1 = cc in absurd (omega arit
 ordered-at i (j ∷ ks) o zero k e = let q : j ≡ k = cc in omega (arith, o .0, ap disc q)
 ordered-at i (j ∷ ks) o (suc n) k e = omega (arith, ordered-at (suc i) ks (o .1) n k e)
 
-pub disc-kind-of : (n : ℕ) (k : Kind) → kind-of n ≡ some k → n ≡ disc k
+pub disc-kind-of : DiscKindOf
 unfolding kind-of
 disc-kind-of n k e =
     omega (arith, ordered-at 0 kinds (refl, (refl, (refl, (refl, (refl, (refl, (refl, (refl, (refl, (refl, (refl, tt))))))))))) n k e)

@@ -14,4 +14,5 @@ pub mod Sound
 pub mod Memories
 pub mod Addresses
 pub mod Walks
+pub mod Refusals
 pub mod Replies

@@ -13,6 +13,7 @@ use Rattle.types.specs.Same.{same-numbers}
 use Rattle.types.specs.Node.{Node, encode, guess, formed}
 use Rattle.types.specs.Arena.{Arena, sound}
 use Rattle.types.specs.Memory.{flat, words-of, starts-of, Holds, holds, span, read, arena-of}
+use Rattle.types.specs.Theorems.{UniqueArena, ArenaOfHolds, HoldsArenaOf, Unsound}
 use Rattle.types.specs.declared.Counters.{Counters}
 use Rattle.types.proofs.Tests.{and-true, both, numbers-true, numbers-if}
 use Rattle.types.proofs.Nodes.{guess-encode, encode-count}
@@ -76,14 +77,14 @@ module _ {table : ℕ} {w s : List ℕ} {c : Counters} {a : Arena} where
       }
 
   -- ---- `arena-of` gives an arena exactly where memory holds it
-  pub arena-of-holds : Holds table w s c a → arena-of table w s c ≡ some a
+  pub arena-of-holds : ArenaOfHolds table w s c a
   unfolding arena-of
   arena-of-holds H = kept (read (c .nodes) w []) (read-holds H)
     where
       kept : (b : Arena) → b ≡ a → elim (holds table w s c b) as (λ _. Option Arena) [ true ↦ some b | false ↦ none ] ≡ some a
       kept b q = rw (q, holds-true H) (ap some q)
 
-  pub holds-arena-of : arena-of table w s c ≡ some a → Holds table w s c a
+  pub holds-arena-of : HoldsArenaOf table w s c a
   unfolding arena-of
   holds-arena-of e = go (holds table w s c (read (c .nodes) w [])) refl e
     where
@@ -92,10 +93,10 @@ module _ {table : ℕ} {w s : List ℕ} {c : Counters} {a : Arena} where
       go false q p = let z : _≡_ {A = ℕ} 0 1 = cc in absurd (omega arith)
 
 -- whatever the tables
-pub unique : {t u : ℕ} {w s : List ℕ} {c : Counters} {a b : Arena} → Holds t w s c a → Holds u w s c b → a ≡ b
+pub unique : {t u : ℕ} {w s : List ℕ} {c : Counters} {a b : Arena} → UniqueArena t u w s c a b
 unique H K = sym (read-holds H) ∙ read-holds K
 
-pub unsound : {table : ℕ} {w s : List ℕ} {c : Counters} → ((a : Arena) → Holds table w s c a → ⊥) → arena-of table w s c ≡ none
+pub unsound : {table : ℕ} {w s : List ℕ} {c : Counters} → Unsound table w s c
 unsound {table} {w} {s} {c} f = go (arena-of table w s c) refl
   where
     go : (o : Option Arena) → arena-of table w s c ≡ o → o ≡ none

@@ -12,10 +12,11 @@ use Rattle.words.specs.Words.{bit, head-kind, head-open, head-dynamic, head-zer
 use Rattle.types.specs.Kind as kinds
 use Rattle.types.specs.Kind.{Kind, disc, kind-of, body-count, body-of}
 use Rattle.types.specs.Node.{positive, negative, Field, field, primitive, list, lambda, attrset, named, Tag, members, bound, var, neg, form, Node, node, tag, kind, data-of, field-names, names, child-words, body, head-of, encode, below, matched, formed, field-of, tag-of, children-of, guess-kind, guess}
+use Rattle.types.specs.Theorems.{GuessEncode}
 use Rattle.types.proofs.Tests.{and-true, both}
 use Rattle.types.proofs.Lists.{below-cons}
 use Rattle.types.proofs.KindNumbers.{kind-of-disc, disc-small}
-use Rattle.words.proofs.Words.{head-kind-made, head-open-made, head-dynamic-made, head-zero-made, head-count-made, field-optional-made, field-name-made, field-child-made, child-zero-made, child-of-fields}
+use Rattle.words.proofs.Words.{head-made, field-made, child-zero-made, child-of-fields}
 
 pub nil : (cs : List ℕ) → length cs ≡ 0 → cs ≡ []
 nil [] e = refl
@@ -40,7 +41,7 @@ children-back (f ∷ fs) [] n e = refl
 children-back (field o m ∷ fs) (c ∷ cs) n e =
     let p = below-cons (2 ^ 12) c cs e in
     let q = below-cons (2 ^ 8) m (field-names fs) n in
-    cons (field-child-made o m c (record { few-names = q .0; few-nodes = p .0 })) (children-back fs cs (q .1) (p .1))
+    cons (field-made o m c (record { few-names = q .0; few-nodes = p .0 }) .child-back) (children-back fs cs (q .1) (p .1))
 
 pub fields-back : (fs : List Field) (cs : List ℕ) → below (2 ^ 8) (field-names fs) ≡ true → below (2 ^ 12) cs ≡ true → length fs ≤ length cs → map field-of (take (length fs) (child-words fs cs)) ≡ fs
 unfolding child-words
@@ -50,7 +51,7 @@ fields-back (field o m ∷ fs) (c ∷ cs) n e l =
     let p = below-cons (2 ^ 12) c cs e in
     let q = below-cons (2 ^ 8) m (field-names fs) n in
     let fits : FieldFits m c = record { few-names = q .0; few-nodes = p .0 } in
-    cons (λ i. field (field-optional-made o m c fits i) (field-name-made o m c fits i)) (fields-back fs cs (q .1) (p .1) (omega arith))
+    cons (λ i. field (field-made o m c fits .optional-back i) (field-made o m c fits .name-back i)) (fields-back fs cs (q .1) (p .1) (omega arith))
 
 -- ---- what `formed` says, part by part
 pub record Formed (t : Tag) (cs : List ℕ) : Type 0 where
@@ -105,23 +106,23 @@ module _ (x : Node) (e : formed x ≡ true) where
 
   pub encode-kind : head-kind (head-of x) ≡ disc (kind (tag x))
   unfolding head-of
-  encode-kind = head-kind-made _ _ _ _ fit
+  encode-kind = head-made _ _ _ _ fit .kind-back
 
   pub encode-open : head-open (head-of x) ≡ data-of (tag x) .opened
   unfolding head-of
-  encode-open = head-open-made _ _ _ _ fit
+  encode-open = head-made _ _ _ _ fit .open-back
 
   pub encode-dynamic : head-dynamic (head-of x) ≡ data-of (tag x) .dynamic
   unfolding head-of
-  encode-dynamic = head-dynamic-made _ _ _ _ fit
+  encode-dynamic = head-made _ _ _ _ fit .dynamic-back
 
   pub encode-zero : head-zero (head-of x) ≡ 0
   unfolding head-of
-  encode-zero = head-zero-made _ _ _ _ fit
+  encode-zero = head-made _ _ _ _ fit .zero-back
 
   pub encode-count : head-count (head-of x) ≡ length (body x)
   unfolding head-of
-  encode-count = head-count-made _ _ _ _ fit
+  encode-count = head-made _ _ _ _ fit .count-back
 
 -- ---- the node again
 own-back : (cs : List ℕ) → length cs ≡ 0 → [] ≡ cs
@@ -148,10 +149,10 @@ node-back (form (named n)) [] F = absurd (omega (arith, eqb-true 0 1 (F .counted
 node-back (form (named n)) (c ∷ cs) F =
     let p = below-cons (2 ^ 12) c cs (F .few-nodes) in
     let q = below-cons (2 ^ 8) n [] (F .few-names) in
-    let m = field-name-made false n c (record { few-names = q .0; few-nodes = p .0 }) in
+    let m = field-made false n c (record { few-names = q .0; few-nodes = p .0 }) .name-back in
     λ i. node (form (named (m i))) (children-back (field false n ∷ []) (c ∷ cs) (F .few-names) (F .few-nodes) i)
 
-pub guess-encode : (x : Node) → formed x ≡ true → guess (encode x) ≡ x
+pub guess-encode : GuessEncode
 unfolding guess encode
 guess-encode (node t cs) e =
     let x = node t cs in

@@ -6,7 +6,8 @@ use mathlib.Core.List.{List, [], _∷_}
 use native.Mathlib.Omega.{arith}
 use lib.Dec.{ltb}
 use borrow.Author.Tests.{lt-ltb, le-ltb, ltb-true, ltb-false}
-use Rattle.types.specs.Order.{order, then, lexicographic, by, then-by, reversed, TotalOrder}
+use Rattle.types.specs.Order.{order, ordering-then, lexicographic, by, then-by, reversed, TotalOrder}
+use Rattle.types.specs.Theorems.{OrderTotal, LexicographicTotal, KeysTotal}
 use Rattle.types.specs.declared.Ordering.{Ordering}
 use Rattle.types.specs.declared.Ordering.the-variants.{Less, Equal, Greater}
 
@@ -20,14 +21,14 @@ less-greater e = let z : _≡_ {A = ℕ} 0 1 = cc in omega arith
 pub equal-greater : Equal ≡ Greater → ⊥
 equal-greater e = let z : _≡_ {A = ℕ} 0 1 = cc in omega arith
 
-reversed-then : (o p : Ordering) → then (reversed o) (reversed p) ≡ reversed (then o p)
-unfolding then reversed
+reversed-then : (o p : Ordering) → ordering-then (reversed o) (reversed p) ≡ reversed (ordering-then o p)
+unfolding ordering-then reversed
 reversed-then Less p = refl
 reversed-then Equal p = refl
 reversed-then Greater p = refl
 
-pub then-equal : (o p : Ordering) → then o p ≡ Equal → (o ≡ Equal) × (p ≡ Equal)
-unfolding then
+pub then-equal : (o p : Ordering) → ordering-then o p ≡ Equal → (o ≡ Equal) × (p ≡ Equal)
+unfolding ordering-then
 then-equal Less p e = absurd (less-equal e)
 then-equal Equal p e = (refl, e)
 then-equal Greater p e = absurd (equal-greater (sym e))
@@ -76,7 +77,7 @@ order-turned m n =
     (λ h. order-equal n m (sym h) ∙ sym (ap reversed (order-equal m n h)))
     (λ h. order-less n m h ∙ sym (ap reversed (order-greater m n h)))
 
-pub order-total : TotalOrder order
+pub order-total : OrderTotal
 order-total = record {
   refl-equal = λ x. order-equal x x refl;
   equal = order-eq;
@@ -125,16 +126,16 @@ by-ranking key R = record {
 
 -- one order and then another, at things of which the second tells p, q and r
 then-trans {ℓ} : {A : Type ℓ} {f : A → A → Ordering} → Ranking f → (x y z : A) (p q r : Ordering) → (p ≡ Less → q ≡ Less → r ≡ Less)
-    → then (f x y) p ≡ Less → then (f y z) q ≡ Less → then (f x z) r ≡ Less
-unfolding then
+    → ordering-then (f x y) p ≡ Less → ordering-then (f y z) q ≡ Less → ordering-then (f x z) r ≡ Less
+unfolding ordering-then
 then-trans {f = f} R x y z p q r k = go (f x y) (f y z) refl refl
   where
-    go : (o u : Ordering) → f x y ≡ o → f y z ≡ u → then o p ≡ Less → then u q ≡ Less → then (f x z) r ≡ Less
-    go Less Less d e s t = ap (λ (w : Ordering). then w r) (R .trans x y z d e)
-    go Less Equal d e s t = ap (λ (w : Ordering). then w r) (ranking-alike R x y z e ∙ d)
+    go : (o u : Ordering) → f x y ≡ o → f y z ≡ u → ordering-then o p ≡ Less → ordering-then u q ≡ Less → ordering-then (f x z) r ≡ Less
+    go Less Less d e s t = ap (λ (w : Ordering). ordering-then w r) (R .trans x y z d e)
+    go Less Equal d e s t = ap (λ (w : Ordering). ordering-then w r) (ranking-alike R x y z e ∙ d)
     go Less Greater d e s t = absurd (less-greater (sym t))
-    go Equal Less d e s t = ap (λ (w : Ordering). then w r) (R .alike x y z d ∙ e)
-    go Equal Equal d e s t = ap (λ (w : Ordering). then w r) (R .alike x y z d ∙ e) ∙ k s t
+    go Equal Less d e s t = ap (λ (w : Ordering). ordering-then w r) (R .alike x y z d ∙ e)
+    go Equal Equal d e s t = ap (λ (w : Ordering). ordering-then w r) (R .alike x y z d ∙ e) ∙ k s t
     go Equal Greater d e s t = absurd (less-greater (sym t))
     go Greater u d e s t = absurd (less-greater (sym s))
 
@@ -142,8 +143,8 @@ module _ {ℓ} {A : Type ℓ} {f g : A → A → Ordering} (F : Ranking f) (G : 
   pub then-ranking : Ranking (then-by f g)
   unfolding then-by
   then-ranking = record {
-    turned = λ x y. ap₂ then (F .turned x y) (G .turned x y) ∙ reversed-then (f x y) (g x y);
-    alike = λ x y z e. let b = then-equal (f x y) (g x y) e in ap₂ then (F .alike x y z (b .0)) (G .alike x y z (b .1));
+    turned = λ x y. ap₂ ordering-then (F .turned x y) (G .turned x y) ∙ reversed-then (f x y) (g x y);
+    alike = λ x y z e. let b = then-equal (f x y) (g x y) e in ap₂ ordering-then (F .alike x y z (b .0)) (G .alike x y z (b .1));
     trans = λ x y z. then-trans F x y z (g x y) (g y z) (g x z) (G .trans x y z);
   }
 
@@ -153,8 +154,7 @@ module _ {ℓ} {A : Type ℓ} {f g : A → A → Ordering} (F : Ranking f) (G : 
   then-total h = ranking-total then-ranking (λ x y e. let b = then-equal (f x y) (g x y) e in h x y (b .0) (b .1))
 
 -- things by one key and then another, where the two tell them apart
-pub keys-total {ℓ κ μ} : {A : Type ℓ} {B : Type κ} {C : Type μ} (key : A → B) (tie : A → C) {f : B → B → Ordering} {g : C → C → Ordering} → TotalOrder f → TotalOrder g
-    → ((x y : A) → key x ≡ key y → tie x ≡ tie y → x ≡ y) → TotalOrder (then-by (by key f) (by tie g))
+pub keys-total {ℓ κ μ} : {A : Type ℓ} {B : Type κ} {C : Type μ} (key : A → B) (tie : A → C) {f : B → B → Ordering} {g : C → C → Ordering} → KeysTotal key tie f g
 unfolding by
 keys-total key tie F G h =
     then-total (by-ranking key (total-ranking F)) (by-ranking tie (total-ranking G))
@@ -167,7 +167,7 @@ module _ {ℓ} {A : Type ℓ} {f : A → A → Ordering} where
   lexicographic-turned R [] [] = refl
   lexicographic-turned R [] (y ∷ ys) = refl
   lexicographic-turned R (x ∷ xs) [] = refl
-  lexicographic-turned R (x ∷ xs) (y ∷ ys) = ap₂ then (R .turned x y) (lexicographic-turned R xs ys) ∙ reversed-then (f x y) _
+  lexicographic-turned R (x ∷ xs) (y ∷ ys) = ap₂ ordering-then (R .turned x y) (lexicographic-turned R xs ys) ∙ reversed-then (f x y) _
 
   lexicographic-alike : Ranking f → (xs ys zs : List A) → lexicographic f xs ys ≡ Equal → lexicographic f xs zs ≡ lexicographic f ys zs
   unfolding lexicographic
@@ -177,7 +177,7 @@ module _ {ℓ} {A : Type ℓ} {f : A → A → Ordering} where
   lexicographic-alike R (x ∷ xs) (y ∷ ys) [] e = refl
   lexicographic-alike R (x ∷ xs) (y ∷ ys) (z ∷ zs) e =
       let b = then-equal (f x y) (lexicographic f xs ys) e in
-      ap₂ then (R .alike x y z (b .0)) (lexicographic-alike R xs ys zs (b .1))
+      ap₂ ordering-then (R .alike x y z (b .0)) (lexicographic-alike R xs ys zs (b .1))
 
   lexicographic-trans : Ranking f → (xs ys zs : List A) → lexicographic f xs ys ≡ Less → lexicographic f ys zs ≡ Less → lexicographic f xs zs ≡ Less
   unfolding lexicographic
@@ -199,5 +199,5 @@ module _ {ℓ} {A : Type ℓ} {f : A → A → Ordering} where
       let b = then-equal (f x y) (lexicographic f xs ys) e in
       ap₂ _∷_ (T .equal x y (b .0)) (lexicographic-equal T xs ys (b .1))
 
-  pub lexicographic-total : TotalOrder f → TotalOrder (lexicographic f)
+  pub lexicographic-total : LexicographicTotal f
   lexicographic-total T = ranking-total (lexicographic-ranking (total-ranking T)) (lexicographic-equal T)

@@ -7,7 +7,8 @@ use lib.ListN.{length, set, replicate, length-append}
 use lib.Seq.{take-append-seam, set-append-seam, append-snoc}
 use Rattle.types.specs.declared.short_text.ShortText.{ShortText}
 use Rattle.types.specs.Decimal.{digit, decimal}
-use Rattle.types.specs.Short.{short-text, text, appended, Room}
+use Rattle.types.specs.Short.{short-text}
+use Rattle.types.specs.Inner.{text, appended, Room}
 use Rattle.types.proofs.Decimals.{decimal-small, decimal-step}
 
 pub text-short : (s : List ℕ) → text (short-text s) ≡ s

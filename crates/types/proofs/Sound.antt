@@ -5,12 +5,13 @@ use mathlib.Core.Bool.{Bool, true, false}
 use mathlib.Core.List.{List, [], _∷_, map}
 use mathlib.Core.Option.{Option, some}
 use native.Mathlib.Omega.{arith}
-use lib.ListN.{length, getD}
+use lib.ListN.{length}
 use lib.Dec.{eqb}
 use borrow.Author.Tests.{eqb-true, eqb-false}
 use Rattle.types.specs.Same.{same}
 use Rattle.types.specs.Node.{Tag, Node, node, tag, children, node-dec, below, formed, linked, well}
 use Rattle.types.specs.Arena.{Arena, at, fold, find, absent, sound, Ext, here, more}
+use Rattle.types.specs.Theorems.{ExtFold, FoldAt, ChildLower, FindAt, AtFind}
 use Rattle.types.proofs.Tests.{true-false, and-true, both, same-true, same-if}
 use Rattle.types.proofs.Lists.{below-at, below-cons}
 use Rattle.types.proofs.Decodes.{well-parts}
@@ -54,27 +55,27 @@ module _ (table : ℕ) (a : Arena) (h : sound table a ≡ true) (n : ℕ) (l : n
   pub children-below : below n (children (at a n)) ≡ true
   children-below = linked-children table n (at a n) (well-parts table n (at a n) at-well .linked-so)
 
-  pub child-lower : (i : ℕ) → i < length (children (at a n)) → getD (children (at a n)) i 0 < n
-  child-lower = below-at n (children (at a n)) children-below
+pub child-lower : ChildLower
+child-lower table a h n l = below-at n (children (at a n)) (children-below table a h n l)
 
 -- ---- the value of a node, from its children's
 pub map-below {ℓ} : {Y : Type ℓ} (f g : ℕ → Y) (n : ℕ) (cs : List ℕ) → below n cs ≡ true → ((c : ℕ) → c < n → f c ≡ g c) → map f cs ≡ map g cs
 map-below f g n [] e h = refl
 map-below f g n (c ∷ cs) e h = let p = below-cons n c cs e in λ i. h c (p .0) i ∷ map-below f g n cs (p .1) h i
 
-pub fold-at {ℓ} : {Y : Type ℓ} (value : Tag → List Y → Y) (table : ℕ) (a : Arena) → sound table a ≡ true → (n : ℕ) → n < length a → fold value a n ≡ value (tag (at a n)) (map (fold value a) (children (at a n)))
+pub fold-at {ℓ} : {Y : Type ℓ} (value : Tag → List Y → Y) → FoldAt value
 unfolding fold
 fold-at value table a h n l =
     let B = before a n l in
     let old : (c : ℕ) → c < n → fold value (B .older) c ≡ fold value a c = λ c k. sym (ext-rec _ _ (B .older) a (ext-tail (B .ext)) c (omega (arith, B .count))) in
     rec-at _ _ a n l ∙ ap (value (tag (at a n))) (map-below (fold value (B .older)) (fold value a) n (children (at a n)) (children-below table a h n l) old)
 
-pub ext-fold {ℓ} : {Y : Type ℓ} (value : Tag → List Y → Y) (b a : Arena) → Ext b a → (n : ℕ) → n < length b → fold value a n ≡ fold value b n
+pub ext-fold {ℓ} : {Y : Type ℓ} (value : Tag → List Y → Y) → ExtFold value
 unfolding fold
 ext-fold value = ext-rec _ _
 
 -- ---- what is found is there
-pub find-at : (x : Node) (a : Arena) (n : ℕ) → find x a ≡ some n → (n < length a) × (at a n ≡ x)
+pub find-at : FindAt
 unfolding find
 find-at x [] n e = let z : _≡_ {A = ℕ} 0 1 = cc in absurd (omega arith)
 find-at x (y ∷ s) n e = go (same node-dec x y) refl e (find-at x s n)
@@ -84,7 +85,7 @@ find-at x (y ∷ s) n e = go (same node-dec x y) refl e (find-at x s n)
     go false q p f = let r = f p in (let l = r .0 in omega arith, at-grow y s n (r .0) ∙ r .1)
 
 -- and what is there is found: in a sound arena a node has one number
-pub at-find : (table : ℕ) (a : Arena) → sound table a ≡ true → (n : ℕ) → n < length a → find (at a n) a ≡ some n
+pub at-find : AtFind
 unfolding find
 at-find table [] h n l = absurd (omega arith)
 at-find table (y ∷ s) h n l = go (eqb n (length s)) refl (at-find table s (sound-tail table y s h) n)

@@ -9,7 +9,8 @@ use borrow.Author.Tests.{eq-eqb, ne-eqb}
 use Rattle.types.specs.declared.short_text.ShortText.{ShortText}
 use Rattle.types.specs.Bytes.{bytes}
 use Rattle.types.specs.Decimal.{decimal}
-use Rattle.types.specs.Short.{short-text, appended, Room}
+use Rattle.types.specs.Short.{short-text}
+use Rattle.types.specs.Inner.{appended, Room}
 use Rattle.types.specs.Tyvar.{unknown, letter, suffix, tyvar-name}
 use Rattle.types.proofs.Decimals.{decimal-length}
 use Rattle.types.proofs.Shorts.{appended-short, room-of}

@@ -5,8 +5,9 @@ use mathlib.Core.Bool.{true}
 use native.Mathlib.Omega.{arith}
 use lib.ListN.{length, getD}
 use Rattle.types.specs.Node.{Polarity, Node, tag, children}
-use Rattle.types.specs.Arena.{Arena, at, sound, Ext}
+use Rattle.types.specs.Arena.{Arena, at, sound}
 use Rattle.types.specs.Places.{child-sign, Place, self, down}
+use Rattle.types.specs.Theorems.{PlaceKept, PlaceOld}
 use Rattle.types.proofs.Growth.{ext-at}
 use Rattle.types.proofs.Sound.{child-lower}
 
@@ -29,17 +30,16 @@ place-lower table a h (down {n = n} i k q) l =
     omega arith
 
 -- ---- an old number has the same places in a grown arena
-module _ (table : ℕ) (b a : Arena) (h : sound table b ≡ true) (e : Ext b a) where
-  pub place-kept : {n u : ℕ} {s p : Polarity} → Place b n s u p → n < length b → Place a n s u p
-  place-kept self l = self
-  place-kept (down {n = n} i k q) l =
-      let c = child-lower table b h n l i k in
-      step a n (at b n) (ext-at b a e n l) i k (place-kept q (omega arith))
+pub place-kept : (table : ℕ) (b a : Arena) {n u : ℕ} {s p : Polarity} → PlaceKept table b a n u s p
+place-kept table b a h e self l = self
+place-kept table b a h e (down {n = n} i k q) l =
+    let c = child-lower table b h n l i k in
+    step a n (at b n) (ext-at b a e n l) i k (place-kept table b a h e q (omega arith))
 
-  pub place-old : {n u : ℕ} {s p : Polarity} → Place a n s u p → n < length b → Place b n s u p
-  place-old self l = self
-  place-old (down {n = n} i k q) l =
-      let x = ext-at b a e n l in
-      let c : getD (children (at a n)) i 0 < n
-      = subst (λ (y : Node). getD (children y) i 0 < n) (sym x) (child-lower table b h n l i (subst (λ (y : Node). i < length (children y)) x k)) in
-      step b n (at a n) (sym x) i k (place-old q (omega arith))
+pub place-old : (table : ℕ) (b a : Arena) {n u : ℕ} {s p : Polarity} → PlaceOld table b a n u s p
+place-old table b a h e self l = self
+place-old table b a h e (down {n = n} i k q) l =
+    let x = ext-at b a e n l in
+    let c : getD (children (at a n)) i 0 < n
+    = subst (λ (y : Node). getD (children y) i 0 < n) (sym x) (child-lower table b h n l i (subst (λ (y : Node). i < length (children y)) x k)) in
+    step b n (at a n) (sym x) i k (place-old table b a h e q (omega arith))

@@ -13,3 +13,5 @@ pub mod Arena
 pub mod Places
 pub mod Memory
 pub mod Reply
+pub mod Theorems
+pub mod Inner

@@ -12,18 +12,18 @@ unfoldable pub order : ℕ → ℕ → Ordering
 order m n = elim (ltb m n) [ true ↦ Less | false ↦ elim (ltb n m) [ true ↦ Greater | false ↦ Equal ] ]
 
 -- the first answer, or the second where the first leaves it open
-unfoldable pub then : Ordering → Ordering → Ordering
-then Less o = Less
-then Equal o = o
-then Greater o = Greater
+unfoldable pub ordering-then : Ordering → Ordering → Ordering
+ordering-then Less o = Less
+ordering-then Equal o = o
+ordering-then Greater o = Greater
 
 -- lists by their first difference; a list comes before any longer one that begins with it
 unfoldable pub lexicographic {ℓ} : {A : Type ℓ} → (A → A → Ordering) → List A → List A → Ordering
-unfolding then
+unfolding ordering-then
 lexicographic f [] [] = Equal
 lexicographic f [] (y ∷ ys) = Less
 lexicographic f (x ∷ xs) [] = Greater
-lexicographic f (x ∷ xs) (y ∷ ys) = then (f x y) (lexicographic f xs ys)
+lexicographic f (x ∷ xs) (y ∷ ys) = ordering-then (f x y) (lexicographic f xs ys)
 
 -- things by what a key reads off them
 unfoldable pub by {ℓ κ} : {A : Type ℓ} {B : Type κ} → (A → B) → (B → B → Ordering) → A → A → Ordering
@@ -31,8 +31,8 @@ by key f x y = f (key x) (key y)
 
 -- by one order, and where it leaves two things open by another
 unfoldable pub then-by {ℓ} : {A : Type ℓ} → (A → A → Ordering) → (A → A → Ordering) → A → A → Ordering
-unfolding then
-then-by f g x y = then (f x y) (g x y)
+unfolding ordering-then
+then-by f g x y = ordering-then (f x y) (g x y)
 
 -- does the answer say that the first comes before the second?
 abbrev pub is-less : Ordering → Bool

@@ -46,6 +46,10 @@ pub record Has (a : Arena) (n : ℕ) (s : Polarity) (v : ℕ) (p : Polarity) : T
   pub place : Place a n s number p
   pub is : tag (at a number) ≡ var v
 
+-- the variable v occurs with the sign p in the type of the root, which is positive: it has a place of that sign there
+abbrev pub Occurs : Arena → ℕ → ℕ → Polarity → Type 0
+Occurs a root v p = Has a root positive v p
+
 -- "polar form" is 01's term: unions have only positive places, and intersections only negative ones
 pub record Polar (a : Arena) (root : ℕ) : Type 0 where
   pub sides : (u : ℕ) (p k : Polarity) → Place a root positive u p → tag (at a u) ≡ members k → p ≡ k

@@ -3,7 +3,8 @@ ghost use mathlib.Core.Path.{_≡_};
 ghost use mathlib.Core.List.{[], _∷_};
 ghost use lib.ListN.{length};
 ghost use Rattle.types.specs.Decimal.{decimal};
-ghost use Rattle.types.specs.Short.{short-text, appended, Room};
+ghost use Rattle.types.specs.Short.{short-text};
+ghost use Rattle.types.specs.Inner.{appended, Room};
 
 // The bytes after `len` are zero.
 pub struct ShortText {

@@ -1,6 +1,7 @@
 // The line of each case but those with two arenas or a lent text. A case is taken from the front of `s`, its first byte is its
 // number, and an answer says how many bytes the case has and how many the output holds.
 use answer_writing::lines::Step;
+use answer_writing::lines::and;
 use answer_writing::lines::done;
 use answer_writing::lines::ok;
 use answer_writing::lines::refused;
@@ -20,8 +21,10 @@ use case_reading::numbers::word;
 use free_vars::Answer;
 use free_vars::FreeVars;
 use free_vars::free_type_vars;
+use names::Placed;
 use names::Table;
 use names::check_names;
+use names::name_stretch;
 use questions::lambdas::has_shared_tyvar_across_lambda_params;
 use questions::named::Unwrapped;
 use questions::named::unwrap_named;
@@ -67,6 +70,28 @@ fn table(s: &[u8], out: &mut Output, held: usize) -> Step {
         return Step::Cut;
     }
     let held = checked(out, held, check_names(part(s, 3, end)));
+    done(end, out, held)
+}
+
+// What `name_stretch` answered.
+fn placed(out: &mut Output, held: usize, r: Placed) -> usize {
+    match r {
+        Placed::At(text) => {
+            let held = ok(out, held, text.start);
+            and(out, held, text.length)
+        }
+        Placed::Refused(number) => refused(out, held, number),
+    }
+}
+
+// Where the text of a name lies in its table.
+fn name_at(s: &[u8], out: &mut Output, held: usize) -> Step {
+    let next = add(3, short(s, 1));
+    let end = add(next, 4);
+    if s.len() < end {
+        return Step::Cut;
+    }
+    let held = placed(out, held, name_stretch(part(s, 3, next), word(s, next)));
     done(end, out, held)
 }
 
@@ -253,6 +278,7 @@ pub fn one_arena(
         3 => compare(s, words, starts, out, held),
         6 => table(s, out, held),
         7 => name_order(s, out, held),
+        22 => name_at(s, out, held),
         9 | 11 | 13 | 14 | 15 | 16 | 20 => on_type(op, s, words, starts, out, held),
         _ => Step::Cut,
     }

@@ -1,4 +1,4 @@
-// The text of a type.
+// The text of a type, and the sheet of an arena: the calls that write into lent bytes.
 use answer_writing::lines::Step;
 use answer_writing::lines::done;
 use answer_writing::lines::ok;
@@ -10,16 +10,22 @@ use case_reading::host::Host;
 use case_reading::host::Words;
 use case_reading::host::lend_host;
 use case_reading::numbers::add;
+use case_reading::numbers::byte;
 use case_reading::numbers::first;
 use case_reading::numbers::part;
 use case_reading::numbers::word;
 use display::Displayed;
 use display::display;
+use sheet_writing::Written;
+use sheet_writing::write_sheet;
 use types::Counters;
 use types::arc_ty::wide;
 
 // As many bytes as a text can be lent.
 pub type Text = [u8; 70000];
+
+// The operation that is `display`.
+const DISPLAY: usize = 5;
 
 // What lent bytes are before a text is written.
 const UNTOUCHED: u8 = 0xaa;
@@ -45,23 +51,31 @@ fn all_are(text: &[u8], byte: u8) -> bool {
     true
 }
 
-// After 9 the bytes are zero, after another number as lent.
-fn refused_right(number: u32, text: &[u8]) -> bool {
+// What lent bytes are after 9: `display` sets them to zero, `write_sheet` leaves them.
+fn after_nine(op: usize) -> u8 {
+    if op == DISPLAY {
+        return 0;
+    }
+    UNTOUCHED
+}
+
+// After another number they are as lent.
+fn refused_right(op: usize, number: u32, text: &[u8]) -> bool {
     if number == 9 {
-        return all_are(text, 0);
+        return all_are(text, after_nine(op));
     }
     all_are(text, UNTOUCHED)
 }
 
-// Whether the bytes are as they should be: past a text they are as lent.
-fn left_right(r: Displayed, text: &[u8]) -> bool {
+// Whether the bytes are as they should be: past what was written they are as lent.
+fn left_right(op: usize, r: Displayed, text: &[u8]) -> bool {
     match r {
         Displayed::Text(length) => all_are(part(text, length, text.len()), UNTOUCHED),
-        Displayed::Refused(number) => refused_right(number, text),
+        Displayed::Refused(number) => refused_right(op, number, text),
     }
 }
 
-// What `display` answered, and its text.
+// What the call answered, and what it wrote.
 fn displayed(out: &mut Output, held: usize, r: Displayed, text: &[u8]) -> usize {
     match r {
         Displayed::Text(length) => {
@@ -72,33 +86,41 @@ fn displayed(out: &mut Output, held: usize, r: Displayed, text: &[u8]) -> usize 
     }
 }
 
-// The line of an answer. What the call left beside the text is judged here, for no answer shows it.
-fn judged(out: &mut Output, held: usize, r: Displayed, text: &[u8]) -> usize {
+// The line of an answer. What the call left beside it is judged here, for no answer shows it.
+fn judged(op: usize, out: &mut Output, held: usize, r: Displayed, text: &[u8]) -> usize {
     let held = displayed(out, held, r, text);
-    if left_right(r, text) {
+    if left_right(op, r, text) {
         return held;
     }
     put_text(out, held, b" with bytes that aren't as they should be")
 }
 
-// The call, on bytes that all have the same value.
-fn display_lent(
+// The answer of `write_sheet` as one of `display`.
+fn as_displayed(r: Written) -> Displayed {
+    match r {
+        Written::Sheet(length) => Displayed::Text(length),
+        Written::Refused(number) => Displayed::Refused(number),
+    }
+}
+
+// The call.
+fn call(
+    op: usize,
     table: &[u8],
     words: &[u32],
     starts: &[u32],
     c: Counters,
     root: u32,
     text: &mut [u8],
-    out: &mut Output,
-    held: usize,
-) -> usize {
-    fill(text, UNTOUCHED);
-    let r = display(table, words, starts, c, root, text);
-    judged(out, held, r, text)
+) -> Displayed {
+    if op == DISPLAY {
+        return display(table, words, starts, c, root, text);
+    }
+    as_displayed(write_sheet(table, words, starts, c, root, text))
 }
 
-// The same for the parts of a case.
-fn display_parts(
+// The same for the parts of a case, on bytes that all have the same value.
+fn write_parts(
     s: &[u8],
     h: Host,
     words: &[u32],
@@ -107,26 +129,29 @@ fn display_parts(
     out: &mut Output,
     held: usize,
 ) -> Step {
+    let op = byte(s, 0);
     let lent = wide(word(s, add(h.next, 4)));
     let end = add(h.next, 8);
     if s.len() < end || text.len() < lent {
         return Step::Cut;
     }
-    let held = display_lent(
+    let text = &mut text[0..lent];
+    fill(text, UNTOUCHED);
+    let r = call(
+        op,
         part(s, 3, h.table),
         first(words, h.words),
         first(starts, h.starts),
         h.counters,
         word(s, h.next),
-        &mut text[0..lent],
-        out,
-        held,
+        text,
     );
+    let held = judged(op, out, held, r, text);
     done(end, out, held)
 }
 
-// The text of a type.
-pub fn display_type(
+// The text of a type, or the sheet of an arena.
+pub fn write(
     s: &[u8],
     words: &mut Words,
     starts: &mut Words,
@@ -135,5 +160,5 @@ pub fn display_type(
     held: usize,
 ) -> Step {
     let h = lend_host(s, words, starts);
-    display_parts(s, h, words, starts, text, out, held)
+    write_parts(s, h, words, starts, text, out, held)
 }

@@ -9,8 +9,9 @@ use lib.Dec.{eqb, eqb·suc-zero}
 use Rattle.types.specs.Kind.{disc}
 use Rattle.types.specs.Node.{Polarity, positive, negative, Tag, members, bound, var, neg, form, primitive, list, lambda, attrset, named, kind}
 use Rattle.types.specs.Places.{opposite, child-sign}
-use Rattle.bits.specs.Bits.{has, Row, Put}
-use Rattle.walks.specs.Signs.{side, sign-of, turned, flag-after, Room, Adds}
+use Rattle.bits.specs.Bits.{has, Put}
+use Rattle.bits.specs.Inner.{Row}
+use Rattle.walks.specs.Inner.Signs.{side, sign-of, turned, flag-after, Room, Adds}
 
 -- ---- a number more in one set
 module _ {x y : List ℕ} {n : ℕ} (P : Put x n y) where

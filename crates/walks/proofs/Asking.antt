@@ -8,11 +8,12 @@ use Rattle.types.specs.Arena.{Arena}
 use Rattle.types.specs.declared.Counters.{Counters}
 use Rattle.types.proofs.Replies.{rooted-no, rooted-yes}
 use Rattle.names.specs.Table.{Name}
-use Rattle.soundness.specs.Sound.{lent-reply, judged-out}
+use Rattle.soundness.specs.Inner.Sound.{lent-reply, judged-out}
 use Rattle.soundness.specs.declared.Judged.{Judged}
 use Rattle.soundness.specs.declared.Judged.the-variants as verdict
 use Rattle.soundness.proofs.Verdicts.{lent-refused, lent-done}
-use Rattle.walks.specs.Asked.{asking, ask-reply, Says, Answers}
+use Rattle.walks.specs.Asked.{asking, ask-reply}
+use Rattle.walks.specs.Inner.Asked.{Says, Answers}
 
 module _ {A : Type 0} (q : Arena → ℕ → A) where
   abbrev said : ℕ → Arena → Out A

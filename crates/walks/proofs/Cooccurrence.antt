@@ -11,13 +11,14 @@ use Rattle.words.specs.Words.{bit}
 use Rattle.types.specs.Kind.{body-count}
 use Rattle.types.specs.Node.{Polarity, positive, negative, Field, field, Tag, members, bound, var, neg, form, primitive, list, lambda, attrset, named, Node, node, field-names, names, tag, children, child-words, formed, rising}
 use Rattle.types.specs.Arena.{Arena, at, sound}
-use Rattle.types.specs.Places.{Place, self}
+use Rattle.types.specs.Places.{self}
 use Rattle.types.specs.Places as places
 use Rattle.types.proofs.Tests.{and-true}
 use Rattle.types.proofs.Nodes.{length-child-words, Formed, formed-parts}
 use Rattle.node_order.specs.NodeOrder.{Settled}
 use Rattle.node_order.proofs.NodeOrders.{rising-rest}
-use Rattle.walks.specs.Paths.{attr-field, TypePath, lambda-segment, attr-segment, segments, Occurs, here, down, Grouped, Merged}
+use Rattle.walks.specs.Paths.{attr-field, TypePath, lambda-segment, attr-segment, segments, PathTo, here, down, Grouped}
+use Rattle.walks.specs.Theorems.{OneVariable, SameVariable, PlacePath, NothingMerged}
 use Rattle.walks.proofs.Variables.{at-settled, no-child}
 
 -- ---- the steps to a set's children differ
@@ -79,35 +80,30 @@ step : (x : Node) → Settled x → {i j : ℕ} → i < length (children x) → 
 step (node t cs) S l k e = apart cs l k t (formed-parts t cs (S .formed)) (S .rising) e
 
 module _ (table : ℕ) (a : Arena) (h : sound table a ≡ true) where
-  along : {n v w : ℕ} {π ρ : TypePath} → Occurs a n π v → Occurs a n ρ w → π ≡ ρ → v ≡ w
+  along : {n v w : ℕ} {π ρ : TypePath} → PathTo a n π v → PathTo a n ρ w → π ≡ ρ → v ≡ w
   along (here e) (here f) q = cc
   along (here e) (down {n = n} i l p) q = absurd (omega (arith, no-child (at a n) (at-settled table a h n) e))
   along (down {n = n} i l o) (here f) q = absurd (omega (arith, no-child (at a n) (at-settled table a h n) f))
   along (down {n = n} i l o) (down {v = w} {π = ρ} j k p) q =
       let S = step (at a n) (at-settled table a h n) l k q in
-      along o (subst (λ (m : ℕ). Occurs a (getD (children (at a n)) m 0) ρ w) (sym (S .child)) p) (S .rest)
+      along o (subst (λ (m : ℕ). PathTo a (getD (children (at a n)) m 0) ρ w) (sym (S .child)) p) (S .rest)
 
-  -- a path from a node names one variable
-  pub one-variable : {n v w : ℕ} {π : TypePath} → Occurs a n π v → Occurs a n π w → v ≡ w
-  one-variable o p = along o p refl
+-- a path from a node names one variable
+pub one-variable : (table : ℕ) (a : Arena) {n v w : ℕ} {π : TypePath} → OneVariable table a n v w π
+one-variable table a h o p = along table a h o p refl
 
-  -- two variables with the same paths are one, if one of them has a path
-  pub same-variable : {n v w : ℕ} {π : TypePath} → ((ρ : TypePath) → Occurs a n ρ v → Occurs a n ρ w) → Occurs a n π v → v ≡ w
-  same-variable {π = π} f o = one-variable o (f π o)
+-- two variables with the same paths are one, if one of them has a path
+pub same-variable : (table : ℕ) (a : Arena) {n v w : ℕ} {π : TypePath} → SameVariable table a n v w π
+same-variable table a {π = π} h f o = one-variable table a h o (f π o)
 
 -- ---- a variable with a place has a path
-pub record Occurrence (a : Arena) (n v : ℕ) : Type 0 where
-  pub path : TypePath
-  pub occurs : Occurs a n path v
-
-pub place-path : {a : Arena} {n u v : ℕ} {s p : Polarity} → Place a n s u p → tag (at a u) ≡ var v → Occurrence a n v
+pub place-path : {a : Arena} {n u v : ℕ} {s p : Polarity} → PlacePath a n u v s p
 place-path self e = record { path = []; occurs = here e }
 place-path (places.down i l q) e = record { path = _; occurs = down i l (place-path q e .occurs) }
 
 -- ---- the substitution is empty
-module _ (table : ℕ) (a : Arena) (h : sound table a ≡ true) {root v w : ℕ} where
-  pub grouped-same : Grouped a root v w → v ≡ w
-  grouped-same G = let S = G .first positive in same-variable table a h (λ ρ. G .same ρ .0) (place-path (S .place) (S .is) .occurs)
+grouped-same : (table : ℕ) (a : Arena) → sound table a ≡ true → {root v w : ℕ} → Grouped a root v w → v ≡ w
+grouped-same table a h G = let S = G .first positive in same-variable table a h (λ ρ. G .same ρ .0) (place-path (S .place) (S .is) .occurs)
 
-  pub nothing-merged : Merged a root v w → ⊥
-  nothing-merged M = omega (arith, grouped-same (M .grouped), M .smaller)
+pub nothing-merged : (table : ℕ) (a : Arena) {root v w : ℕ} → NothingMerged table a root v w
+nothing-merged table a h M = omega (arith, grouped-same table a h (M .grouped), M .smaller)

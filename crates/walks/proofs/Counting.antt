@@ -14,12 +14,14 @@ use Rattle.types.specs.declared.Counters.{Counters}
 use Rattle.types.proofs.Tests.{same-truth, not-true}
 use Rattle.types.proofs.Walks.{place-lower}
 use Rattle.types.proofs.Addresses.{start-room}
-use Rattle.bits.specs.Bits.{has, Union, count-below}
+use Rattle.bits.specs.Bits.{has, count-below}
+use Rattle.bits.specs.Inner.{Union}
 use Rattle.bits.proofs.Sets.{count-same}
-use Rattle.node_store.specs.Stored.{InRange}
-use Rattle.walks.specs.Signs.{SignsIn}
-use Rattle.walks.specs.Asked.{Says}
-use Rattle.walks.specs.Reach.{reaches, reach-count, ReachIn}
+use Rattle.node_store.specs.Inner.Stored.{InRange}
+use Rattle.walks.specs.Inner.Signs.{SignsIn}
+use Rattle.walks.specs.Inner.Asked.{Says}
+use Rattle.walks.specs.Reach.{reaches, reach-count}
+use Rattle.walks.specs.Inner.Sets.{ReachIn}
 use Rattle.walks.proofs.Reaching.{or-right, reaches-place, place-reaches}
 
 pub or-cases : (b c : Bool) → (b || c) ≡ true → (b ≡ true) ⊎ (c ≡ true)

@@ -19,10 +19,11 @@ use Rattle.types.proofs.Sound.{child-lower}
 use Rattle.types.proofs.Memories.{unique}
 use Rattle.types.proofs.Walks.{place-join}
 use Rattle.types.proofs.Addresses.{start-room}
-use Rattle.bits.specs.Bits.{has, Row, Put}
+use Rattle.bits.specs.Bits.{has, Put}
+use Rattle.bits.specs.Inner.{Row}
 use Rattle.bits.proofs.Sets.{has-none}
-use Rattle.node_store.specs.Stored.{InRange}
-use Rattle.walks.specs.Signs.{side, Signs, Rows, ChildOf, Visits, Marking, SignsIn}
+use Rattle.node_store.specs.Inner.Stored.{InRange}
+use Rattle.walks.specs.Inner.Signs.{side, Signs, Rows, ChildOf, Visits, Marking, SignsIn}
 
 -- a child has a place below its parent
 child-place : {a : Arena} {n : ℕ} {s t : Polarity} {u : ℕ} → ChildOf a n s t u → Place a n s u t

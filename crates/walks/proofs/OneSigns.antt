@@ -3,20 +3,22 @@ use Prim.Native.Nat.{ℕ, _<_}
 use mathlib.Core.Path.{_≡_, refl, sym, _∙_, subst}
 use mathlib.Core.Bool.{Bool, true, false, xor}
 use mathlib.Core.List.{List}
-use mathlib.Core.Logic.{_↔_}
 use native.Mathlib.Decide.{decLt}
 use native.Mathlib.Omega.{arith}
-use Rattle.types.specs.Node.{Polarity, positive, negative, var, tag}
-use Rattle.types.specs.Arena.{Arena, at, sound}
-use Rattle.types.specs.Places.{opposite, Place}
+use Rattle.types.specs.Node.{Polarity, positive, negative}
+use Rattle.types.specs.Arena.{Arena, sound}
+use Rattle.types.specs.Places.{opposite, Place, Occurs}
 use Rattle.types.specs.Memory.{Holds}
 use Rattle.types.specs.declared.Counters.{Counters}
 use Rattle.types.proofs.Tests.{true-false, not-true}
 use Rattle.types.proofs.Walks.{place-lower}
-use Rattle.bits.specs.Bits.{has, SymmetricDifference}
-use Rattle.node_store.specs.Stored.{InRange}
-use Rattle.walks.specs.Signs.{side, SignsIn}
-use Rattle.walks.specs.Removable.{Seen, Removable, OneSigned, OneSignedIn}
+use Rattle.bits.specs.Bits.{has}
+use Rattle.bits.specs.Inner.{SymmetricDifference}
+use Rattle.node_store.specs.Inner.Stored.{InRange}
+use Rattle.walks.specs.Inner.Signs.{side, SignsIn}
+use Rattle.walks.specs.Removable.{OneSigned}
+use Rattle.walks.specs.Inner.Sets.{OneSignedIn}
+use Rattle.walks.specs.Theorems.{OneSignedRemovable}
 use Rattle.walks.proofs.Marks.{root-small}
 use Rattle.walks.proofs.Variables.{one-node}
 
@@ -64,11 +66,11 @@ module _ {w s : List ℕ} {c : Counters} {root : ℕ} (R : InRange w s c root) w
           ∙ alone-xor p q u (O .sign) (G .complete (O .sign) u (O .place)) (not-true (has (side (opposite (O .sign)) p q) u) (λ e. O .unplaced (G .sound (opposite (O .sign)) u e)))
 
 -- ---- a variable's node
-pub one-signed-removable : (table : ℕ) (a : Arena) → sound table a ≡ true → (root u v : ℕ) → tag (at a u) ≡ var v → OneSigned a root u ↔ Removable a root v
+pub one-signed-removable : OneSignedRemovable
 one-signed-removable table a h root u v e = (
   λ O. record { sign = O .sign; seen = record { number = u; is = e; place = O .place }; unseen = λ S. O .unplaced (moved S) },
   λ M. record { sign = M .sign; place = moved (M .seen); unplaced = λ x. M .unseen (record { number = u; is = e; place = x }) },
 )
   where
-    moved : {s : Polarity} → Seen a root v s → Place a root positive u s
+    moved : {s : Polarity} → Occurs a root v s → Place a root positive u s
     moved {s} S = subst (λ (n : ℕ). Place a root positive n s) (one-node table a h (S .number) u v (S .is) e) (S .place)

@@ -9,11 +9,12 @@ use lib.Dec.{eqb}
 use borrow.Author.Tests.{eqb-true, eq-eqb}
 use Rattle.types.specs.Node.{Polarity, positive, tag, children}
 use Rattle.types.specs.Arena.{Arena, at, sound}
-use Rattle.types.specs.Places.{child-sign, Place, self, down, Reachable}
+use Rattle.types.specs.Places.{child-sign, Place, self, down}
 use Rattle.types.proofs.Tests.{true-false}
 use Rattle.types.proofs.Growth.{before, ext-tail, ext-rec, rec-at}
 use Rattle.types.proofs.Sound.{child-lower}
 use Rattle.walks.specs.Reach.{some-of, reaches}
+use Rattle.walks.specs.Theorems.{ReachesPlace, PlaceReaches}
 
 -- ---- one of several tests
 pub record Some (g : ℕ → Bool) (cs : List ℕ) : Type 0 where
@@ -70,12 +71,13 @@ module _ (table : ℕ) (a : Arena) (h : sound table a ≡ true) (u : ℕ) where
           let L = f (getD (children (at a n)) (S .index) 0) (omega arith) (omega arith) (older n l _ low ∙ S .passes) (child-sign (tag (at a n)) (S .index) s) in
           record { sign = L .sign; place = down (S .index) (S .inside) (L .place) }
 
-  pub reaches-place : (n : ℕ) → n < length a → reaches a n u ≡ true → Reachable a n u
-  reaches-place n l e = let L = led (suc n) n (omega arith) l e positive in record { sign = L .sign; place = L .place }
+pub reaches-place : ReachesPlace
+reaches-place table a h u n l e = let L = led table a h u (suc n) n (omega arith) l e positive in record { sign = L .sign; place = L .place }
 
-  pub place-reaches : {n : ℕ} {s p : Polarity} → Place a n s u p → n < length a → reaches a n u ≡ true
-  place-reaches {n} self l = let B = before a n l in at-node n l ∙ rw (eq-eqb n (length (B .older)) (sym (B .count)))
-  place-reaches (down {n = n} i k r) l =
-      let c = child-lower table a h n l i k in
-      at-node n l
-      ∙ or-right (eqb u (length (before a n l .older))) _ (in-some (λ (c : ℕ). reaches (before a n l .older) c u) (children (at a n)) i k (sym (older n l _ c) ∙ place-reaches r (omega arith)))
+pub place-reaches : (table : ℕ) (a : Arena) {n : ℕ} {s p : Polarity} → PlaceReaches table a n s p
+place-reaches table a {n} h u self l = let B = before a n l in at-node table a h u n l ∙ rw (eq-eqb n (length (B .older)) (sym (B .count)))
+place-reaches table a h u (down {n = n} i k r) l =
+    let c = child-lower table a h n l i k in
+    at-node table a h u n l
+    ∙ or-right (eqb u (length (before a n l .older))) _
+    (in-some (λ (c : ℕ). reaches (before a n l .older) c u) (children (at a n)) i k (sym (older table a h u n l _ c) ∙ place-reaches table a h u r (omega arith)))

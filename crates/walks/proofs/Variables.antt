@@ -15,6 +15,7 @@ use Rattle.types.proofs.Nodes.{nil, Formed, formed-parts}
 use Rattle.types.proofs.Sound.{sound-well, sound-tail, at-find}
 use Rattle.node_order.specs.NodeOrder.{Settled}
 use Rattle.node_order.proofs.NodeOrders.{well-settled}
+use Rattle.walks.specs.Theorems.{OneNode}
 
 -- each node is settled, and so is `never` past the end
 pub at-settled : (table : ℕ) (a : Arena) → sound table a ≡ true → (n : ℕ) → Settled (at a n)
@@ -45,7 +46,7 @@ inside (x ∷ s) n v e = go (eqb n (length s)) refl e (inside s n v)
 var-node : (x : Node) (v : ℕ) → Settled x → tag x ≡ var v → x ≡ node (var v) []
 var-node (node t cs) v S e = λ i. node (e i) (nil cs (no-child (node t cs) S e) i)
 
-pub one-node : (table : ℕ) (a : Arena) → sound table a ≡ true → (m n v : ℕ) → tag (at a m) ≡ var v → tag (at a n) ≡ var v → m ≡ n
+pub one-node : OneNode
 one-node table a h m n v d e =
     let p : at a m ≡ at a n = var-node (at a m) v (at-settled table a h m) d ∙ sym (var-node (at a n) v (at-settled table a h n) e) in
     let q : some m ≡ some n = sym (at-find table a h m (inside a m v d)) ∙ ap (λ (x : Node). find x a) p ∙ at-find table a h n (inside a n v e) in

@@ -19,8 +19,8 @@ use Rattle.types.proofs.Faults.{children-encode}
 use Rattle.types.proofs.Sound.{at-formed}
 use Rattle.types.proofs.Addresses.{start-room}
 use Rattle.bits.specs.Bits.{has}
-use Rattle.node_store.specs.Stored.{NodeAt}
-use Rattle.walks.specs.Signs.{side, sign-of, turned, flag-after, Rows, WordChild, AddsSome, AddsWords, ChildOf, AddsAll, Visits, Marking}
+use Rattle.node_store.specs.Inner.Stored.{NodeAt}
+use Rattle.walks.specs.Inner.Signs.{side, sign-of, turned, flag-after, Rows, WordChild, AddsSome, AddsWords, ChildOf, AddsAll, Visits, Marking}
 use Rattle.walks.proofs.Additions.{flag-sign}
 
 -- a child in the words of a formed node is a child of the node

@@ -1,5 +1,6 @@
-pub mod Signs
 pub mod Asked
 pub mod Reach
 pub mod Removable
 pub mod Paths
+pub mod Theorems
+pub mod Inner

@@ -5,10 +5,10 @@ use mathlib.Core.Path.{_≡_}
 use mathlib.Core.List.{List, [], _∷_, _++_}
 use mathlib.Core.Logic.{_↔_}
 use lib.ListN.{length, getD}
+use Rattle.types.specs.Places.{Occurs}
 use Rattle.types.specs.Node.{Polarity, Field, field, primitive, list, lambda, attrset, named, Tag, members, bound, var, neg, form, tag}
 use Rattle.types.specs.Node.{children}
 use Rattle.types.specs.Arena.{Arena, at}
-use Rattle.walks.specs.Removable.{Seen}
 
 -- a step of a path: a lambda's param or body, a list's element, the field of a set that has this name, a set's dynamic part, a member of a
 -- list of either kind by its index. The names of a table differ, so that a number stands for a name
@@ -48,16 +48,16 @@ segments (form (attrset fs d o)) i = attr-segment fs i ∷ []
 segments (form (named n)) i = []
 
 -- the path π leads from node n to the variable v. The paths of a variable are what the Rust calls its occurrences
-pub data Occurs (a : Arena) : ℕ → TypePath → ℕ → Type 0 where
-  here : {n v : ℕ} → tag (at a n) ≡ var v → Occurs a n [] v
-  down : {n v : ℕ} {π : TypePath} (i : ℕ) → i < length (children (at a n)) → Occurs a (getD (children (at a n)) i 0) π v
-      → Occurs a n (segments (tag (at a n)) i ++ π) v
+pub data PathTo (a : Arena) : ℕ → TypePath → ℕ → Type 0 where
+  here : {n v : ℕ} → tag (at a n) ≡ var v → PathTo a n [] v
+  down : {n v : ℕ} {π : TypePath} (i : ℕ) → i < length (children (at a n)) → PathTo a (getD (children (at a n)) i 0) π v
+      → PathTo a n (segments (tag (at a n)) i ++ π) v
 
 -- two variables that the Rust puts into one group: seen with both signs, and with the same set of paths (`build_cooccurrence_substitution`)
 pub record Grouped (a : Arena) (root v w : ℕ) : Type 0 where
-  pub first : (s : Polarity) → Seen a root v s
-  pub second : (s : Polarity) → Seen a root w s
-  pub same : (π : TypePath) → Occurs a root π v ↔ Occurs a root π w
+  pub first : (s : Polarity) → Occurs a root v s
+  pub second : (s : Polarity) → Occurs a root w s
+  pub same : (π : TypePath) → PathTo a root π v ↔ PathTo a root π w
 
 -- its substitution has w for v: w is the smallest of v's group, and another variable
 pub record Merged (a : Arena) (root v w : ℕ) : Type 0 where

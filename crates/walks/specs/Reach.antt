@@ -1,6 +1,5 @@
 -- Which nodes are reachable from a root, as a test, and how many.
-use Prim.Native.Nat.{ℕ, _<_}
-use mathlib.Core.Path.{_≡_}
+use Prim.Native.Nat.{ℕ}
 use mathlib.Core.Bool.{Bool, false, _||_}
 use mathlib.Core.List.{List, [], _∷_, map}
 use lib.ListN.{length}
@@ -8,9 +7,7 @@ use lib.Dec.{eqb}
 use Rattle.types.specs.Out.{Out, ok, refuse}
 use Rattle.types.specs.Node.{Node, children}
 use Rattle.types.specs.Arena.{Arena, rec}
-use Rattle.types.specs.Memory.{Holds}
-use Rattle.types.specs.declared.Counters.{Counters}
-use Rattle.bits.specs.Bits.{has, count-below}
+use Rattle.bits.specs.Bits.{count-below}
 use Rattle.walks.specs.declared.reach.Counted.{Counted}
 use Rattle.walks.specs.declared.reach.Counted.the-variants as counted
 
@@ -35,7 +32,3 @@ reach-count a root = count-below (reaches a root) (length a)
 abbrev pub counted-out : Counted → Out ℕ
 counted-out (counted.Nodes n) = ok n
 counted-out (counted.Refused e) = refuse e
-
--- the set r holds exactly the nodes reachable from the root, in any arena that memory holds
-pub record ReachIn (w s : List ℕ) (c : Counters) (root : ℕ) (r : List ℕ) : Type 0 where
-  pub is : (table : ℕ) (a : Arena) → Holds table w s c a → (u : ℕ) → u < 4096 → has r u ≡ reaches a root u

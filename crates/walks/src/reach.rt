@@ -7,9 +7,11 @@ use soundness::judge;
 use types::Counters;
 use types::arc_ty::wide;
 ghost use mathlib.Core.Path.{_≡_};
-ghost use Rattle.node_store.specs.Stored.{Lent, InRange};
-ghost use Rattle.walks.specs.Asked.{ask-reply, Answers};
-ghost use Rattle.walks.specs.Reach.{reach-count, ReachIn, counted-out};
+ghost use Rattle.node_store.specs.Inner.Stored.{Lent, InRange};
+ghost use Rattle.walks.specs.Asked.{ask-reply};
+ghost use Rattle.walks.specs.Inner.Asked.{Answers};
+ghost use Rattle.walks.specs.Reach.{reach-count, counted-out};
+ghost use Rattle.walks.specs.Inner.Sets.{ReachIn};
 
 // The reachable nodes, a bit for each: those with a place of either sign.
 pub fn reachable(words: &[u32], starts: &[u32], c: Counters, root: usize) -> [u64; 64]

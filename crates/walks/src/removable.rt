@@ -3,8 +3,8 @@
 use crate::signs::signs_of;
 use bits::symmetric_difference;
 use types::Counters;
-ghost use Rattle.node_store.specs.Stored.{InRange};
-ghost use Rattle.walks.specs.Removable.{OneSignedIn};
+ghost use Rattle.node_store.specs.Inner.Stored.{InRange};
+ghost use Rattle.walks.specs.Inner.Sets.{OneSignedIn};
 
 // The nodes that have a place of one sign in the type of the root, and none of the other.
 pub fn one_signed(words: &[u32], starts: &[u32], c: Counters, root: usize) -> [u64; 64]

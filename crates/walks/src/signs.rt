@@ -2,17 +2,17 @@
 // each node after all that lead to it, at most once with each sign.
 use bits::put;
 use bits::test;
-use node_reading::children::child_at;
-use node_reading::children::child_count;
+use node_reading::children::child_words;
 use node_store::stored::node_at;
 use types::Counters;
 use types::arc_ty::Head;
+use types::arc_ty::child;
 ghost use Prim.Native.Nat.{_<_};
 ghost use mathlib.Core.Path.{_≡_};
 ghost use Rattle.bits.specs.Bits.{has};
-ghost use Rattle.node_store.specs.Stored.{InRange};
-ghost use Rattle.walks.specs.Signs.{sign-of, turned, flag-after, Rows, Room, Adds, AddsWords, AddsAll, Visits, Marking, SignsIn};
-ghost use Rattle.walks.specs.Signs.{side};
+ghost use Rattle.node_store.specs.Inner.Stored.{InRange};
+ghost use Rattle.walks.specs.Inner.Signs.{sign-of, turned, flag-after, Rows, Room, Adds, AddsWords, AddsAll, Visits, Marking};
+ghost use Rattle.walks.specs.Inner.Signs.{SignsIn, side};
 
 // Whether a node of this kind turns the sign of child i: `Neg` does, and a lambda that of its param.
 fn turns(kind: u32, i: usize) -> bool
@@ -54,11 +54,11 @@ fn add_all(node: &[u32], sign: bool, positive: &mut [u64; 64], negative: &mut [u
     }
     let head = Head { word: node[0] };
     let kind = head.kind();
-    let count = child_count(node);
+    let body = child_words(node);
     let mut i = 0;
-    while i < count {
+    while i < body.len() {
         let next = sign_after(sign, turns(kind, i));
-        add(positive, negative, next, child_at(node, i));
+        add(positive, negative, next, child(body[i]));
         i += 1;
     }
 }

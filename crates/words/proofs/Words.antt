@@ -7,7 +7,8 @@ use native.Mathlib.Omega.{arith}
 use native.Mathlib.Decide.{ℕ-discrete}
 use lib.Dec.{eqb}
 use borrow.Author.Tests.{eq-eqb, ne-eqb}
-use Rattle.words.specs.Words.{bit, HeadFits, head-word, head-kind, head-open, head-dynamic, head-zero, head-count, FieldFits, field-word, field-optional, field-name, field-zero, child, child-zero}
+use Rattle.words.specs.Words.{bit, head-word, head-kind, head-open, head-dynamic, head-zero, head-count, field-word, field-optional, field-name, field-zero, child, child-zero}
+use Rattle.words.specs.Theorems.{HeadsMade, HeadBounded, HeadOfFields, FieldsMade, FieldBounded, FieldOfFields, ChildZeroMade, ChildOfFields}
 
 -- ---- a flag is a number below 2, read by comparing it with 1
 bit-small : (b : Bool) → bit b ≤ 1
@@ -26,37 +27,23 @@ bit-eqb x h = go (ℕ-discrete x 1)
     go (no f) = rw (ne-eqb x 1 f) (omega arith)
 
 -- ---- the fields of a made head
-module _ (kind : ℕ) (op dyn : Bool) (count : ℕ) (fits : HeadFits kind count) where
-  pub head-kind-made : head-kind (head-word kind op dyn count) ≡ kind
-  unfolding head-kind head-word
-  head-kind-made = omega (arith, bit-small op, bit-small dyn)
-
-  pub head-open-made : head-open (head-word kind op dyn count) ≡ op
-  unfolding head-open head-word
-  head-open-made = eqb-bit {x = head-word kind op dyn count / 2 ^ 27 % 2} op (omega (arith, bit-small op, bit-small dyn))
-
-  pub head-dynamic-made : head-dynamic (head-word kind op dyn count) ≡ dyn
-  unfolding head-dynamic head-word
-  head-dynamic-made = eqb-bit {x = head-word kind op dyn count / 2 ^ 26 % 2} dyn (omega (arith, bit-small op, bit-small dyn))
-
-  pub head-zero-made : head-zero (head-word kind op dyn count) ≡ 0
-  unfolding head-zero head-word
-  head-zero-made = omega (arith, bit-small op, bit-small dyn)
-
-  pub head-count-made : head-count (head-word kind op dyn count) ≡ count
-  unfolding head-count head-word
-  head-count-made = omega (arith, bit-small op, bit-small dyn)
-
-  pub head-made-small : head-word kind op dyn count < 2 ^ 32
-  unfolding head-word
-  head-made-small = omega (arith, bit-small op, bit-small dyn)
+pub head-made : HeadsMade
+unfolding head-word head-kind head-open head-dynamic head-zero head-count
+head-made kind op dyn count fits = record {
+  kind-back = omega (arith, bit-small op, bit-small dyn);
+  open-back = eqb-bit {x = head-word kind op dyn count / 2 ^ 27 % 2} op (omega (arith, bit-small op, bit-small dyn));
+  dynamic-back = eqb-bit {x = head-word kind op dyn count / 2 ^ 26 % 2} dyn (omega (arith, bit-small op, bit-small dyn));
+  zero-back = omega (arith, bit-small op, bit-small dyn);
+  count-back = omega (arith, bit-small op, bit-small dyn);
+  small = omega (arith, bit-small op, bit-small dyn);
+}
 
 -- ---- the fields of any head
-pub head-bounded : (w : ℕ) → w < 2 ^ 32 → HeadFits (head-kind w) (head-count w)
+pub head-bounded : HeadBounded
 unfolding head-kind head-count
 head-bounded w h = omega arith
 
-pub head-of-fields : (w : ℕ) → head-zero w ≡ 0 → head-word (head-kind w) (head-open w) (head-dynamic w) (head-count w) ≡ w
+pub head-of-fields : HeadOfFields
 unfolding head-word head-kind head-open head-dynamic head-zero head-count
 head-of-fields w z =
     omega (
@@ -69,42 +56,31 @@ head-of-fields w z =
     )
 
 -- ---- the fields of a made field word
-module _ (optional : Bool) (name node : ℕ) (fits : FieldFits name node) where
-  pub field-optional-made : field-optional (field-word optional name node) ≡ optional
-  unfolding field-optional field-word
-  field-optional-made = eqb-bit {x = field-word optional name node / 2 ^ 31 % 2} optional (omega (arith, bit-small optional))
-
-  pub field-name-made : field-name (field-word optional name node) ≡ name
-  unfolding field-name field-word
-  field-name-made = omega (arith, bit-small optional)
-
-  pub field-zero-made : field-zero (field-word optional name node) ≡ 0
-  unfolding field-zero field-word
-  field-zero-made = omega (arith, bit-small optional)
-
-  pub field-child-made : child (field-word optional name node) ≡ node
-  unfolding child field-word
-  field-child-made = omega (arith, bit-small optional)
-
-  pub field-made-small : field-word optional name node < 2 ^ 32
-  unfolding field-word
-  field-made-small = omega (arith, bit-small optional)
+pub field-made : FieldsMade
+unfolding field-word field-optional field-name field-zero child
+field-made optional name node fits = record {
+  optional-back = eqb-bit {x = field-word optional name node / 2 ^ 31 % 2} optional (omega (arith, bit-small optional));
+  name-back = omega (arith, bit-small optional);
+  zero-back = omega (arith, bit-small optional);
+  child-back = omega (arith, bit-small optional);
+  small = omega (arith, bit-small optional);
+}
 
 -- ---- the fields of any field word, and of any child word
-pub field-bounded : (w : ℕ) → FieldFits (field-name w) (child w)
+pub field-bounded : FieldBounded
 unfolding field-name child
 field-bounded w = omega arith
 
-pub field-of-fields : (w : ℕ) → w < 2 ^ 32 → field-zero w ≡ 0 → field-word (field-optional w) (field-name w) (child w) ≡ w
+pub field-of-fields : FieldOfFields
 unfolding field-word field-optional field-name field-zero child
 field-of-fields w h z =
     let top : w / 2 ^ 31 % 2 ≡ w / 2 ^ 31 = omega arith in
     omega (arith, bit-eqb (w / 2 ^ 31 % 2) (omega arith), div-div-eq-div-mul w (2 ^ 12) (2 ^ 11), div-div-eq-div-mul w (2 ^ 23) (2 ^ 8))
 
-pub child-zero-made : (n : ℕ) → n < 2 ^ 12 → child-zero n ≡ 0
+pub child-zero-made : ChildZeroMade
 unfolding child-zero
 child-zero-made n h = omega arith
 
-pub child-of-fields : (w : ℕ) → child-zero w ≡ 0 → child w ≡ w
+pub child-of-fields : ChildOfFields
 unfolding child-zero child
 child-of-fields w z = omega arith

@@ -1,9 +1,8 @@
 -- The worked types of document 01 that are to be proved (those with a star), and words for each of its sentences on a node.
 use Prim.Native.Nat.{ℕ}
 use Prim.Native.String.{String}
-use mathlib.Core.Path.{_≡_}
 use mathlib.Core.Bool.{Bool, true, false}
-use mathlib.Core.List.{List, [], _∷_, map}
+use mathlib.Core.List.{List, [], _∷_}
 use mathlib.Core.Option.{Option}
 use lib.ListN.{replicate}
 use Rattle.words.specs.Words.{bit}
@@ -137,11 +136,3 @@ normalized = record { gives = normalize-set-ops 16384 4096 4 nested; says = ok (
 -- the empty sets among the types that are printed, and one for each rule of printing
 abbrev pub printed : List display.Case
 printed = display.worked
-
--- every starred type of 01, and what else stands in its lists: what the definitions give is what it says
-pub record Starred : Type 0 where
-  pub variables : map (λ (c : Case). c .gives) worked ≡ map (λ (c : Case). c .says) worked
-  pub simplifies : map (λ (c : simplify.Case). c .gives) simplified ≡ map (λ (c : simplify.Case). c .says) simplified
-  pub normalizes : map (λ (c : Normalized). c .gives) normalized ≡ map (λ (c : Normalized). c .says) normalized
-  pub prints-so : map (λ (c : display.Case). c .gives) printed ≡ map (λ (c : display.Case). c .says) printed
-  pub shares : map (λ (c : Case). c .gives) shared ≡ map (λ (c : Case). c .says) shared

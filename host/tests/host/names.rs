@@ -17,6 +17,21 @@ fn sorted_and_each_once() {
 }
 
 #[test]
+fn as_many_and_as_long_as_can_be() {
+    let text = |k: usize| format!("{k:03}{}", "~".repeat(k % 62));
+    let texts: Vec<String> = (0..256).map(text).collect();
+    let names = Names::new(texts.iter().rev()).unwrap();
+    assert!(names.iter().eq(texts.iter().map(String::as_str)));
+    let mut t = TypeArena::new(names);
+    let int = int(&mut t);
+    for text in &texts {
+        let named = put(&mut t, OutputTy::Named(text.clone(), int));
+        assert_eq!(t.get(named), Ok(OutputTy::Named(text.clone(), int)));
+        assert_eq!(t.display(named).as_deref(), Ok(text.as_str()));
+    }
+}
+
+#[test]
 fn names_that_are_refused() {
     let refused = |name: &str| Names::new([name]).map_err(Refusal::number) == Err(1);
     assert!(!refused(&"n".repeat(64)));

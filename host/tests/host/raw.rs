@@ -26,7 +26,7 @@ fn sound() -> Lent {
         used: 4,
         told: [77, 78],
         length: 79,
-        bytes: vec![80; 8],
+        bytes: vec![80; 26],
         vars: vec![81; ffi::VARS],
     }
 }
@@ -156,6 +156,26 @@ impl Lent {
         }
     }
 
+    fn write_sheet(&mut self) -> u32 {
+        let (table, words, starts) = (&self.table, &self.words, &self.starts);
+        unsafe {
+            ffi::lang_ty_write_sheet(
+                table.as_ptr(),
+                table.len(),
+                words.as_ptr(),
+                words.len(),
+                starts.as_ptr(),
+                starts.len(),
+                self.nodes,
+                self.used,
+                1,
+                self.bytes.as_mut_ptr(),
+                self.bytes.len(),
+                &mut self.length,
+            )
+        }
+    }
+
     fn intern(&mut self, node: &[u32]) -> u32 {
         let (table, words, starts) = (&self.table, &mut self.words, &mut self.starts);
         unsafe {
@@ -250,7 +270,7 @@ impl Lent {
 type Call = fn(&mut Lent) -> u32;
 
 /// Every call that is lent an arena.
-const CALLS: [Call; 16] = [
+const CALLS: [Call; 17] = [
     |l| l.read(ffi::lang_ty_count_reachable),
     |l| l.read(ffi::lang_ty_unwrap_named),
     |l| l.read(ffi::lang_ty_has_type_vars),
@@ -263,6 +283,7 @@ const CALLS: [Call; 16] = [
     Lent::compare,
     Lent::free_type_vars,
     Lent::display,
+    Lent::write_sheet,
     |l| l.intern(&[0]),
     Lent::simplify,
     |l| l.compact(&mut sound()),
@@ -385,7 +406,8 @@ fn results() {
     assert_eq!(lent.length, 1);
     assert!(lent.vars.iter().all(|&index| index == 0), "zeros after a");
     assert_eq!(lent.display(), 0);
-    assert_eq!((lent.length, &lent.bytes[..]), (3, &b"[a]PPPPP"[..]));
+    assert_eq!((lent.length, &lent.bytes[..8]), (3, &b"[a]PPPPP"[..]));
+    assert_eq!(lent.bytes[8..], [80; 18]);
     assert_eq!(lent.simplify(), 0);
     assert_eq!(lent.told, [1, 2]);
 }
@@ -429,4 +451,23 @@ fn a_refused_table_has_no_count() {
     assert_eq!(count(b""), (0, 0));
     assert_eq!(count(b"\x01p\x02pq"), (0, 2));
     assert_eq!(count(b"\x01p\x02p"), (1, 79));
+}
+
+#[test]
+fn a_name_is_a_stretch_of_the_table() {
+    let place = |table: &[u8], number| {
+        let (mut start, mut length) = (77, 78);
+        let bytes = table.as_ptr();
+        // SAFETY: as above.
+        let answer =
+            unsafe { ffi::lang_ty_name_at(bytes, table.len(), number, &mut start, &mut length) };
+        (answer, start, length)
+    };
+    assert_eq!(place(b"\x01p\x02pq", 0), (0, 1, 1));
+    assert_eq!(place(b"\x01p\x02pq", 1), (0, 3, 2));
+    assert_eq!(place(b"\x01p\x02pq", 2), (4, 77, 78));
+    assert_eq!(place(b"\x01p\x02pq", u32::MAX), (4, 77, 78));
+    assert_eq!(place(b"", 0), (4, 77, 78));
+    assert_eq!(place(b"\x01p\x02p", 0), (1, 77, 78));
+    assert_eq!(place(b"\x01p\x02p", 9), (1, 77, 78), "before 4");
 }

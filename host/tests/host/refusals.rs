@@ -288,6 +288,41 @@ fn of_sheets() {
 }
 
 #[test]
+fn sheets_that_exceed() {
+    let mut t = named(&["p"]);
+    let a = var(&mut t, 0);
+    let root = set(&mut t, &[("p", a)]);
+    let written = t.write_sheet(root).unwrap();
+    assert_eq!(written, sheet(&t, root.into_raw()));
+    let mut lent = [7; 26];
+    assert_eq!(number(t.write_sheet_into(at(9), &mut lent)), 6);
+    assert_eq!(number(t.write_sheet_into(root, &mut lent[..23])), 9);
+    assert_eq!(number(t.write_sheet_into(root, &mut [])), 9);
+    assert_eq!(lent, [7; 26], "as lent");
+    assert_eq!(t.write_sheet_into(root, &mut lent[..24]), Ok(&written[..]));
+    assert_eq!(lent[24..], [7; 2]);
+    lent.fill(8);
+    assert_eq!(t.write_sheet_into(root, &mut lent), Ok(&written[..]));
+    assert_eq!(lent[24..], [8; 2], "bytes past the sheet stay");
+}
+
+#[test]
+fn the_longest_sheet() {
+    // 64 variables, 250 unions of 64 members and one of three or four: 16,382 words, and 16,383.
+    for (last, refused) in [(3, 0), (4, 9)] {
+        let vars = (0..64).map(OutputTy::TyVar);
+        let wide = (0..250).map(|k| [vec![at(k % 64), at(k / 64)], vec![at(0); 62]].concat());
+        let lists = wide.chain([vec![at(0); last]]).map(OutputTy::Union);
+        let t = TypeArena::from_nodes(Names::default(), vars.chain(lists)).unwrap();
+        assert_eq!(t.words().len(), 16_379 + last);
+        let written = t.write_sheet(at(314));
+        let length = written.as_ref().map_or(0, Vec::len);
+        assert_eq!(number(written), refused);
+        assert!(refused != 0 || length == 6 + 4 * 16_382);
+    }
+}
+
+#[test]
 fn sheets_of_large_types() {
     let mut t = empty();
     let vars: Vec<TyRef> = (0..65).map(|index| var(&mut t, index)).collect();

@@ -267,6 +267,7 @@ fn the_sheet_of_document_01() {
     let mut by_hand = vec![0, 0, 0, 3, 0, 2];
     by_hand.extend(words.iter().flat_map(|word| word.to_be_bytes()));
     assert_eq!(bytes, by_hand);
+    assert_eq!(t.write_sheet(root), Ok(by_hand));
     assert_eq!(sheet_line(&bytes), Ok("1 2 int".into()));
 }
 

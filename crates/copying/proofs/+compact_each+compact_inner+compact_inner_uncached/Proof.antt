@@ -1,10 +1,16 @@
 -- The cycle: the measure is three times the node's number, and then which part.
 use Prim.Native.Nat.{ℕ, _+_, _-_, _*_, _<_}
+use mathlib.Core.Path.{refl}
 use borrow.Author.Needs.{needs}
+use Rattle.types.proofs.Refusals.{told-on}
+use Rattle.node_store.specs.Intern.{interned-out}
+use Rattle.node_store.specs.declared.added.Interned.the-variants as interned
+use Rattle.recursion.specs.Inner.Work.{run-out}
+use Rattle.recursion.specs.declared.Run.the-variants as run
 use Rattle.recursion.proofs.Remembering.{ready-small, cached-done, remember-room, remembered}
 use Rattle.recursion.proofs.Turns.{Turn, turn-start, turn-item, turn-falls, turn-ready, turn-refused, turn-more, turn-done}
 use Rattle.copying.specs.Copy.{copy}
-use Rattle.copying.specs.Copied.{Source}
+use Rattle.copying.specs.Inner.{Source}
 use Rattle.copying.proofs.Caching.{copy-lawful}
 use Rattle.copying.proofs.Nodes.{source-range, uncached-falls, each-falls, children-ready, copy-refused, copy-ready, copy-done}
 use borrow.Fn.Kinds.{In}
@@ -25,6 +31,8 @@ use Rattle.recursion.proofs.item_at.Reads as item-at-reads
 use Rattle.recursion.proofs.remember.Reads as remember-reads
 use Rattle.copying.proofs.+compact_each+compact_inner+compact_inner_uncached.{statement}
 use Rattle.copying.proofs.+compact_each+compact_inner+compact_inner_uncached.Tie.{close}
+use Rattle.node_store.proofs.added.Interned.refusal.Reads as added-Interned-refusal-reads
+use Rattle.recursion.proofs.Run.refusal.Reads as Run-refusal-reads
 
 abbrev μ-compact-each : Measures 6 compact-each-kinds.ps ℕ
 μ-compact-each κs a = 3 * (a .1 .1 .1 .0)
@@ -76,13 +84,13 @@ compact-inner-uncached-below t =
     compact-inner-uncached.Pre
 
 abbrev compact-each-claims : ℕ → compact-each-lts.Claims
-compact-each-claims t = (item-at-reads.Asked, item-at-reads.Learnt, compact-inner-below t, compact-inner.Post)
+compact-each-claims t = (item-at-reads.Asked, item-at-reads.Learnt, compact-inner-below t, compact-inner.Post, added-Interned-refusal-reads.Asked, added-Interned-refusal-reads.Learnt)
 
 abbrev compact-inner-claims : ℕ → compact-inner-lts.Claims
 compact-inner-claims t = (cached-reads.Asked, cached-reads.Learnt, compact-inner-uncached-below t, compact-inner-uncached.Post, remember-reads.Asked, remember-reads.Learnt)
 
 abbrev compact-inner-uncached-claims : ℕ → compact-inner-uncached-lts.Claims
-compact-inner-uncached-claims t = (all-children-reads.Asked, all-children-reads.Learnt, compact-each-below t, compact-each.Post, intern-copy-reads.Asked, intern-copy-reads.Learnt)
+compact-inner-uncached-claims t = (all-children-reads.Asked, all-children-reads.Learnt, compact-each-below t, compact-each.Post, Run-refusal-reads.Asked, Run-refusal-reads.Learnt, intern-copy-reads.Asked, intern-copy-reads.Learnt)
 
 abbrev compact-each-Inv-loop : compact-each-lts.InvT-loop
 compact-each-Inv-loop words starts c n items₀ count target-words₀ target-starts₀ cache₀ last₀ i₀ items target-words target-starts cache last i = Turn copy (Source words starts c) target-words₀ target-starts₀ last₀ n items₀ count cache₀ target-words target-starts items cache last i
@@ -102,6 +110,12 @@ compact-each-compact-inner-requires t c κs = (search turn-falls, search (turn-r
 compact-each-enum-known-r : (t : ℕ) → compact-each-lts.Need-enum-known-r (compact-each-claims t) (compact-each-at t) compact-each.Post compact-each-Inv-loop compact-each-μ-loop
 compact-each-enum-known-r t c = search needs
 
+compact-each-enum-told : (t : ℕ) → compact-each-lts.Need-enum-told (compact-each-claims t) (compact-each-at t) compact-each.Post compact-each-Inv-loop compact-each-μ-loop
+compact-each-enum-told t c = search needs
+
+compact-each-refusal-requires : (t : ℕ) → compact-each-lts.Need-refusal-requires (compact-each-claims t) (compact-each-at t) compact-each.Post compact-each-Inv-loop compact-each-μ-loop
+compact-each-refusal-requires t c κs = search needs
+
 compact-each-same-length : (t : ℕ) → compact-each-lts.Need-same-length (compact-each-claims t) (compact-each-at t) compact-each.Post compact-each-Inv-loop compact-each-μ-loop
 compact-each-same-length t c = search needs
 
@@ -109,10 +123,7 @@ compact-each-same-length-2 : (t : ℕ) → compact-each-lts.Need-same-length-2 (
 compact-each-same-length-2 t c = search needs
 
 compact-each-returns : (t : ℕ) → compact-each-lts.Need-returns (compact-each-claims t) (compact-each-at t) compact-each.Post compact-each-Inv-loop compact-each-μ-loop
-compact-each-returns t c = search (turn-refused (c .before .before .before .before .before .before .before .before .before .before .before .before .before .before .loop .inv) (c .before .before .before .before .before .before .before .before .before .before .before .before .before .loop-test .taken) (c .before .before .before .before .before .before .before .before .before .before .before .item-at .ensures) copy-lawful (c .before .before .before .before .before .before .before .compact-inner .ensures))
-
-compact-each-enum-known-r-2 : (t : ℕ) → compact-each-lts.Need-enum-known-r-2 (compact-each-claims t) (compact-each-at t) compact-each.Post compact-each-Inv-loop compact-each-μ-loop
-compact-each-enum-known-r-2 t c = search needs
+compact-each-returns t c = turn-refused (c .before .before .before .before .before .before .before .before .before .before .before .before .before .before .loop .inv) (c .before .before .before .before .before .before .before .before .before .before .before .before .before .loop-test .taken) (c .before .before .before .before .before .before .before .before .before .before .before .item-at .ensures) copy-lawful (c .before .before .before .before .before .before .before .compact-inner .ensures) (told-on interned.Refused interned-out (λ e. refl) (c .before .enum-told .given .1) (c .refusal .ensures))
 
 compact-each-mul-items : (t : ℕ) → compact-each-lts.Need-mul-items (compact-each-claims t) (compact-each-at t) compact-each.Post compact-each-Inv-loop compact-each-μ-loop
 compact-each-mul-items t c = search needs
@@ -127,7 +138,7 @@ compact-each-loop-less : (t : ℕ) → compact-each-lts.Need-loop-less (compact-
 compact-each-loop-less t c = search needs
 
 compact-each-loop-again : (t : ℕ) → compact-each-lts.Need-loop-again (compact-each-claims t) (compact-each-at t) compact-each.Post compact-each-Inv-loop compact-each-μ-loop
-compact-each-loop-again t c = search (turn-more (c .before .before .before .before .before .before .before .before .before .before .before .before .before .before .loop .inv) (c .before .before .before .before .before .before .before .before .before .before .before .before .before .loop-test .taken) (c .before .before .before .before .before .before .before .before .before .before .before .item-at .ensures) copy-lawful (c .before .before .before .before .before .before .before .compact-inner .ensures))
+compact-each-loop-again t c = turn-more (c .before .before .before .before .before .before .before .before .before .before .before .before .before .before .loop .inv) (c .before .before .before .before .before .before .before .before .before .before .before .before .before .loop-test .taken) (c .before .before .before .before .before .before .before .before .before .before .before .item-at .ensures) copy-lawful (c .before .before .before .before .before .before .before .compact-inner .ensures) (c .before .r .given .1) (search needs) (search needs)
 
 compact-each-same-length-3 : (t : ℕ) → compact-each-lts.Need-same-length-3 (compact-each-claims t) (compact-each-at t) compact-each.Post compact-each-Inv-loop compact-each-μ-loop
 compact-each-same-length-3 t c = search needs
@@ -189,12 +200,12 @@ compact-inner-uncached-compact-each-requires t c κs = (search each-falls, searc
 compact-inner-uncached-enum-known-r : (t : ℕ) → compact-inner-uncached-lts.Need-enum-known-r (compact-inner-uncached-claims t) (compact-inner-uncached-at t) compact-inner-uncached.Post
 compact-inner-uncached-enum-known-r t c = search needs
 
-compact-inner-uncached-intern-copy-requires :
-    (t : ℕ) → compact-inner-uncached-lts.Need-intern-copy-requires (compact-inner-uncached-claims t) (compact-inner-uncached-at t) compact-inner-uncached.Post
-compact-inner-uncached-intern-copy-requires t c κs = copy-ready (c .before .before .before .before .before .before .before .before .before .before .before .before .before .before .before .before .before .before .before .before .before .pre .1) (c .before .before .before .before .before .before .before .before .before .before .before .before .before .before .before .before .all-children .ensures) (c .before .before .before .before .before .before .before .before .before .before .before .compact-each .ensures) (c .before .before .before .before .before .r .given .1)
+compact-inner-uncached-enum-told : (t : ℕ) → compact-inner-uncached-lts.Need-enum-told (compact-inner-uncached-claims t) (compact-inner-uncached-at t) compact-inner-uncached.Post
+compact-inner-uncached-enum-told t c = search needs
 
-compact-inner-uncached-enum-known-r-2 : (t : ℕ) → compact-inner-uncached-lts.Need-enum-known-r-2 (compact-inner-uncached-claims t) (compact-inner-uncached-at t) compact-inner-uncached.Post
-compact-inner-uncached-enum-known-r-2 t c = search needs
+compact-inner-uncached-refusal-requires :
+    (t : ℕ) → compact-inner-uncached-lts.Need-refusal-requires (compact-inner-uncached-claims t) (compact-inner-uncached-at t) compact-inner-uncached.Post
+compact-inner-uncached-refusal-requires t c κs = search needs
 
 compact-inner-uncached-same-length : (t : ℕ) → compact-inner-uncached-lts.Need-same-length (compact-inner-uncached-claims t) (compact-inner-uncached-at t) compact-inner-uncached.Post
 compact-inner-uncached-same-length t c = search needs
@@ -203,7 +214,11 @@ compact-inner-uncached-same-length-2 : (t : ℕ) → compact-inner-uncached-lts.
 compact-inner-uncached-same-length-2 t c = search needs
 
 compact-inner-uncached-returns : (t : ℕ) → compact-inner-uncached-lts.Need-returns (compact-inner-uncached-claims t) (compact-inner-uncached-at t) compact-inner-uncached.Post
-compact-inner-uncached-returns t c = search (copy-done (c .before .before .before .before .before .before .before .before .before .before .before .before .before .before .before .before .before .before .before .before .before .before .before .before .before .before .pre .1) (c .before .before .before .before .before .before .before .before .before .before .before .before .before .before .before .before .before .before .before .before .before .all-children .ensures) (c .before .before .before .before .before .before .before .before .before .before .before .before .before .before .before .before .compact-each .ensures))
+compact-inner-uncached-returns t c = copy-refused (c .before .before .before .before .before .before .before .before .before .before .before .before .before .before .before .before .before .pre .1) (c .before .before .before .before .before .before .before .before .before .before .before .before .all-children .ensures) (c .before .before .before .before .before .before .before .compact-each .ensures) (told-on run.Refused run-out (λ e. refl) (c .before .enum-told .given .1) (c .refusal .ensures))
+
+compact-inner-uncached-intern-copy-requires :
+    (t : ℕ) → compact-inner-uncached-lts.Need-intern-copy-requires (compact-inner-uncached-claims t) (compact-inner-uncached-at t) compact-inner-uncached.Post
+compact-inner-uncached-intern-copy-requires t c κs = copy-ready (c .before .before .before .before .before .before .before .before .before .before .before .before .before .before .before .before .before .before .before .before .before .pre .1) (c .before .before .before .before .before .before .before .before .before .before .before .before .before .before .before .before .all-children .ensures) (c .before .before .before .before .before .before .before .before .before .before .before .compact-each .ensures) (c .before .before .before .before .before .r .given .1)
 
 compact-inner-uncached-same-length-3 : (t : ℕ) → compact-inner-uncached-lts.Need-same-length-3 (compact-inner-uncached-claims t) (compact-inner-uncached-at t) compact-inner-uncached.Post
 compact-inner-uncached-same-length-3 t c = search needs
@@ -212,7 +227,7 @@ compact-inner-uncached-same-length-4 : (t : ℕ) → compact-inner-uncached-lts.
 compact-inner-uncached-same-length-4 t c = search needs
 
 compact-inner-uncached-returns-2 : (t : ℕ) → compact-inner-uncached-lts.Need-returns-2 (compact-inner-uncached-claims t) (compact-inner-uncached-at t) compact-inner-uncached.Post
-compact-inner-uncached-returns-2 t c = search copy-refused
+compact-inner-uncached-returns-2 t c = copy-done (c .before .before .before .before .before .before .before .before .before .before .before .before .before .before .before .before .before .before .before .before .before .before .before .before .before .before .pre .1) (c .before .before .before .before .before .before .before .before .before .before .before .before .before .before .before .before .before .before .before .before .before .all-children .ensures) (c .before .before .before .before .before .before .before .before .before .before .before .before .before .before .before .before .compact-each .ensures) (c .before .before .before .before .before .before .before .before .before .before .r .given .1) (c .before .before .before .before .intern-copy .ensures) (search needs) (search needs) (search needs) (search needs)
 
 pub +compact-each+compact-inner+compact-inner-uncached-spec : {M : Type 1} → statement M
 +compact-each+compact-inner+compact-inner-uncached-spec =
@@ -225,10 +240,11 @@ pub +compact-each+compact-inner+compact-inner-uncached-spec : {M : Type 1} → s
     (compact-each-item-at-requires t)
     (compact-each-compact-inner-requires t)
     (compact-each-enum-known-r t)
+    (compact-each-enum-told t)
+    (compact-each-refusal-requires t)
     (compact-each-same-length t)
     (compact-each-same-length-2 t)
     (compact-each-returns t)
-    (compact-each-enum-known-r-2 t)
     (compact-each-mul-items t)
     (compact-each-element-write-items t)
     (compact-each-add-i t)
@@ -259,11 +275,12 @@ pub +compact-each+compact-inner+compact-inner-uncached-spec : {M : Type 1} → s
     (compact-inner-uncached-all-children-requires t)
     (compact-inner-uncached-compact-each-requires t)
     (compact-inner-uncached-enum-known-r t)
-    (compact-inner-uncached-intern-copy-requires t)
-    (compact-inner-uncached-enum-known-r-2 t)
+    (compact-inner-uncached-enum-told t)
+    (compact-inner-uncached-refusal-requires t)
     (compact-inner-uncached-same-length t)
     (compact-inner-uncached-same-length-2 t)
     (compact-inner-uncached-returns t)
+    (compact-inner-uncached-intern-copy-requires t)
     (compact-inner-uncached-same-length-3 t)
     (compact-inner-uncached-same-length-4 t)
     (compact-inner-uncached-returns-2 t)

@@ -1,5 +1,9 @@
 -- The bytes are as `display` leaves them; the length is told by the cases of the answer.
 use Rattle.lang_ty_nodes_and_texts.proofs.Lengths.{tell-length, tell-no-length}
+use mathlib.Core.Path.{refl}
+use Rattle.display.specs.declared.Displayed.the-variants as displayed
+use Rattle.display.specs.Reply.{displayed-out}
+use Rattle.types.proofs.Refusals.{told-on}
 use borrow.Author.Needs.{needs}
 use Rattle.lang_ty_nodes_and_texts.proofs.lang_ty_display.Statement.{statement}
 use Rattle.lang_ty_nodes_and_texts.proofs.lang_ty_display.Tie as tie
@@ -10,20 +14,23 @@ display-requires c κs = search needs
 enum-known-answer : tie.Need-enum-known-answer
 enum-known-answer c = search needs
 
-enum-known-answer-2 : tie.Need-enum-known-answer-2
-enum-known-answer-2 c = search needs
+enum-told : tie.Need-enum-told
+enum-told c = search needs
+
+refusal-requires : tie.Need-refusal-requires
+refusal-requires c κs = search needs
 
 same-length : tie.Need-same-length
 same-length c = search needs
 
 returns : tie.Need-returns
-returns c = search tell-length
+returns c = search (tell-no-length, told-on displayed.Refused displayed-out (λ e. refl))
 
 same-length-2 : tie.Need-same-length-2
 same-length-2 c = search needs
 
 returns-2 : tie.Need-returns-2
-returns-2 c = search tell-no-length
+returns-2 c = search tell-length
 
 pub lang-ty-display-spec : {M : Type 1} → statement M
 lang-ty-display-spec =
@@ -31,7 +38,8 @@ lang-ty-display-spec =
     (tie.spec
     display-requires
     enum-known-answer
-    enum-known-answer-2
+    enum-told
+    refusal-requires
     same-length
     returns
     same-length-2

@@ -1,6 +1,10 @@
 -- The reply is that of `intern_lent_pair`, told by the cases of its answer.
-use borrow.Author.Needs.{needs}
 use Rattle.lang_ty_nodes_and_texts.proofs.Storing.{stored-node, stored-refused}
+use mathlib.Core.Path.{refl}
+use Rattle.lent_counters.specs.declared.Stored.the-variants as store
+use Rattle.lent_counters.specs.Lent.{stored-out}
+use Rattle.types.proofs.Refusals.{told-on}
+use borrow.Author.Needs.{needs}
 use Rattle.lang_ty_nodes_and_texts.proofs.lang_ty_intern.Statement.{statement}
 use Rattle.lang_ty_nodes_and_texts.proofs.lang_ty_intern.Tie as tie
 
@@ -10,8 +14,11 @@ intern-lent-pair-requires c κs = search needs
 enum-known-answer : tie.Need-enum-known-answer
 enum-known-answer c = search needs
 
-enum-known-answer-2 : tie.Need-enum-known-answer-2
-enum-known-answer-2 c = search needs
+enum-told : tie.Need-enum-told
+enum-told c = search needs
+
+refusal-requires : tie.Need-refusal-requires
+refusal-requires c κs = search needs
 
 same-length : tie.Need-same-length
 same-length c = search needs
@@ -20,7 +27,7 @@ same-length-2 : tie.Need-same-length-2
 same-length-2 c = search needs
 
 returns : tie.Need-returns
-returns c = search stored-node
+returns c = search (stored-refused, told-on store.Refused stored-out (λ e. refl))
 
 same-length-3 : tie.Need-same-length-3
 same-length-3 c = search needs
@@ -29,7 +36,7 @@ same-length-4 : tie.Need-same-length-4
 same-length-4 c = search needs
 
 returns-2 : tie.Need-returns-2
-returns-2 c = search stored-refused
+returns-2 c = search stored-node
 
 pub lang-ty-intern-spec : {M : Type 1} → statement M
 lang-ty-intern-spec =
@@ -37,7 +44,8 @@ lang-ty-intern-spec =
     (tie.spec
     intern-lent-pair-requires
     enum-known-answer
-    enum-known-answer-2
+    enum-told
+    refusal-requires
     same-length
     same-length-2
     returns

@@ -56,7 +56,8 @@ use Rattle.arena.proofs.intern as intern
 use Rattle.arena.proofs.intern.Symbol as intern-def
 use Rattle.arena.proofs.intern.Symbol.{name as #arena·intern}
 use Rattle.arena.proofs.intern.Met as intern-thm
-use Rattle.lent_counters.specs.Lent.{stored, stored-out, counters-left}
+use Rattle.lent_counters.specs.Inner.{stored, counters-left}
+use Rattle.lent_counters.specs.Lent.{stored-out}
 use Rattle.lent_counters.specs.declared.Stored.{Stored}
 use Rattle.lent_counters.proofs.Replies.{lent-reply}
 use Rattle.lent_counters.proofs.Stored as S

@@ -5,7 +5,7 @@ use Rattle.member_lists.proofs.close_open.Statement.{statement}
 use Rattle.member_lists.proofs.close_open.Tie as tie
 
 flatten-requires : tie.Need-flatten-requires
-flatten-requires c κs = search open-flattens
+flatten-requires c κs = search needs
 
 enum-known-grown : tie.Need-enum-known-grown
 enum-known-grown c = search needs

@@ -1,7 +1,7 @@
 -- `check_names` accepts exactly the tables. The loop's invariant: the bytes are a table exactly if those from `at` on go on with it.
 use Prim.Native.Nat.{_-_}
 use lib.ListN.{length}
-use Rattle.names.specs.Steps.{name-end}
+use Rattle.names.specs.Inner.{name-end}
 use Rattle.names.proofs.Checking.{Stage, stage-start, stage-full, stage-bad, stage-more, stage-done}
 use borrow.Author.Needs.{needs}
 use Rattle.names.proofs.check_names.Statement.{statement}

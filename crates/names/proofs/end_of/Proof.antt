@@ -1,6 +1,6 @@
 -- `end_of` is the smaller of the name's end and the table's.
 use native.Mathlib.Omega.{arith}
-use Rattle.names.specs.Steps.{name-end}
+use Rattle.names.specs.Inner.{name-end}
 use borrow.Author.Needs.{needs}
 use Rattle.names.proofs.end_of.Statement.{statement}
 use Rattle.names.proofs.end_of.Tie as tie

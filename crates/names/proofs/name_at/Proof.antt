@@ -1,81 +1,28 @@
--- `name_at` finds the text of name k. The loop's invariant: it is name `left` of the bytes from `at` on.
-use Prim.Native.Nat.{_-_}
-use lib.ListN.{length}
-use Rattle.names.specs.Steps.{name-end}
-use Rattle.names.proofs.Walking.{Walk, walk-start, walk-here, walk-more, walk-end}
+-- `name_at` is the stretch that `stretch_at` finds.
+use Rattle.names.proofs.Walking.{lies-text}
 use borrow.Author.Needs.{needs}
 use Rattle.names.proofs.name_at.Statement.{statement}
 use Rattle.names.proofs.name_at.Tie as tie
 
-abbrev Inv-loop : tie.InvT-loop
-Inv-loop table k at₀ left₀ at left = Walk table k at left
+stretch-at-requires : tie.Need-stretch-at-requires
+stretch-at-requires c κs = search needs
 
-abbrev μ-loop : tie.MeasureT-loop
-μ-loop table k at₀ left₀ at left = length table - at
+add-end : tie.Need-add-end
+add-end c = search needs
 
-loop-holds : tie.Need-loop-holds Inv-loop μ-loop
-loop-holds c = search walk-start
-
-add-start : tie.Need-add-start Inv-loop μ-loop
-add-start c = search needs
-
-end-of-requires : tie.Need-end-of-requires Inv-loop μ-loop
-end-of-requires c κs = search needs
-
-sub-result : tie.Need-sub-result Inv-loop μ-loop
-unfolding name-end
+sub-result : tie.Need-sub-result
 sub-result c = search needs
 
-part-result-start : tie.Need-part-result-start Inv-loop μ-loop
-unfolding name-end
+part-result-start : tie.Need-part-result-start
 part-result-start c = search needs
 
-part-result-end : tie.Need-part-result-end Inv-loop μ-loop
-unfolding name-end
+part-result-end : tie.Need-part-result-end
 part-result-end c = search needs
 
-returns : tie.Need-returns Inv-loop μ-loop
-returns c = search walk-here
-
-sub-left : tie.Need-sub-left Inv-loop μ-loop
-sub-left c = search needs
-
-loop-less : tie.Need-loop-less Inv-loop μ-loop
-unfolding name-end
-loop-less c = search needs
-
-loop-again : tie.Need-loop-again Inv-loop μ-loop
-loop-again c = search walk-more
-
-sub-result-2 : tie.Need-sub-result-2 Inv-loop μ-loop
-sub-result-2 c = search needs
-
-part-result-start-2 : tie.Need-part-result-start-2 Inv-loop μ-loop
-part-result-start-2 c = search needs
-
-part-result-end-2 : tie.Need-part-result-end-2 Inv-loop μ-loop
-part-result-end-2 c = search needs
-
-returns-2 : tie.Need-returns-2 Inv-loop μ-loop
-returns-2 c = search walk-end
+returns : tie.Need-returns
+returns c = search lies-text
 
 pub name-at-spec : {M : Type 1} → statement M
 name-at-spec =
     tie.close
-    (tie.spec
-    Inv-loop
-    μ-loop
-    loop-holds
-    add-start
-    end-of-requires
-    sub-result
-    part-result-start
-    part-result-end
-    returns
-    sub-left
-    loop-less
-    loop-again
-    sub-result-2
-    part-result-start-2
-    part-result-end-2
-    returns-2)
+    (tie.spec stretch-at-requires add-end sub-result part-result-start part-result-end returns)

@@ -2,7 +2,7 @@
 use Rattle.types.specs.Kind.{kind-of}
 use Rattle.types.specs.Node.{below, rising, children-of}
 use Rattle.types.specs.Fault.{each-zero, body-fits}
-use Rattle.node_faults.specs.Steps.{body-fault, kind-fault}
+use Rattle.node_faults.specs.Inner.{body-fault, kind-fault}
 use Rattle.node_faults.proofs.KindFaults.{kind-none, kind-at, kind-other}
 use borrow.Author.Needs.{needs}
 use Rattle.node_faults.proofs.body_fault.Statement.{statement}

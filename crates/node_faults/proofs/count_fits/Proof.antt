@@ -1,6 +1,6 @@
 -- `count_fits` has a case for each kind whose count is not 1.
 use Rattle.types.specs.Kind.{kind-of, body-count}
-use Rattle.node_faults.specs.Steps.{count-fits}
+use Rattle.node_faults.specs.Inner.{count-fits}
 use Rattle.node_faults.proofs.Heads.{count-none, count-at, count-dynamic, count-set, count-other}
 use borrow.Author.Needs.{needs}
 use Rattle.node_faults.proofs.count_fits.Statement.{statement}

@@ -41,7 +41,7 @@ first-requires : tie.Need-first-requires
 first-requires c κs = search needs
 
 returns : tie.Need-returns
-returns c = search fields-all
+returns c = fields-all _ _ _ _ (c .first .ensures) (c .before .before .before .before .before .before .before .before .field-count .ensures) (c .before .before .before .before .before .before .fields-zero .ensures) (c .before .before .before .before .children-zero .ensures) (c .before .before .before .children-below .ensures) (c .before .before .names-below .ensures) (c .before .names-rise .ensures)
 
 pub fields-fault-spec : {M : Type 1} → statement M
 fields-fault-spec =

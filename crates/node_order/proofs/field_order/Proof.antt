@@ -29,7 +29,7 @@ word-order-requires : tie.Need-word-order-requires
 word-order-requires c κs = search needs
 
 returns-2 : tie.Need-returns-2
-returns-2 c = search field-last
+returns-2 c = field-last _ _ (c .before .before .before .before .before .before .before .field-name .ensures) (c .before .before .before .before .before .before .field-name2 .ensures) (c .before .before .before .before .before .number-order .ensures) (search needs) (c .before .before .child .ensures) (c .before .child2 .ensures) (c .word-order .ensures)
 
 pub field-order-spec : {M : Type 1} → statement M
 field-order-spec =

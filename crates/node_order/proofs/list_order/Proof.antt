@@ -1,7 +1,7 @@
 -- `list_order` answers by the first difference. The loop's invariant: the words passed are alike, so the rests stand as the lists do.
 use Prim.Native.Nat.{_-_}
 use lib.ListN.{length}
-use Rattle.node_order.specs.WordsOrder.{item-order}
+use Rattle.node_order.specs.Inner.{item-order}
 use Rattle.node_order.proofs.Comparing.{Level, level-start, level-told, level-more, level-longer, level-shorter, level-done}
 use borrow.Author.Needs.{needs}
 use Rattle.node_order.proofs.list_order.Statement.{statement}

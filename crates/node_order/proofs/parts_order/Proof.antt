@@ -35,7 +35,7 @@ enum-told-3 : tie.Need-enum-told-3
 enum-told-3 c = search needs
 
 returns-3 : tie.Need-returns-3
-returns-3 c = search told-others
+returns-3 c = told-others _ _ _ _ _ _ (c .before .before .before .before .before .before .before .before .before .kind .ensures) (c .before .before .before .before .before .before .before .before .kind2 .ensures) (c .before .before .before .before .before .before .before .word-order .ensures) (search needs) (c .before .before .before .before .list-order .ensures) (search needs) (c .before .list-order2 .ensures) (search needs)
 
 opened-requires : tie.Need-opened-requires
 opened-requires c κs = search needs
@@ -50,13 +50,13 @@ enum-told-4 : tie.Need-enum-told-4
 enum-told-4 c = search needs
 
 returns-4 : tie.Need-returns-4
-returns-4 c = search told-open
+returns-4 c = told-open _ _ _ _ _ _ (c .before .before .before .before .before .before .before .before .before .before .before .before .before .before .kind .ensures) (c .before .before .before .before .before .before .before .before .before .before .before .before .before .kind2 .ensures) (c .before .before .before .before .before .before .before .before .before .before .before .before .word-order .ensures) (search needs) (c .before .before .before .before .before .before .before .before .before .list-order .ensures) (search needs) (c .before .before .before .before .before .before .list-order2 .ensures) (search needs) (c .before .before .before .opened .ensures) (c .before .before .opened2 .ensures) (c .before .flag-order .ensures) (search needs)
 
 optional-order-requires : tie.Need-optional-order-requires
 optional-order-requires c κs = search needs
 
 returns-5 : tie.Need-returns-5
-returns-5 c = search told-optional
+returns-5 c = told-optional _ _ _ _ _ _ (c .before .before .before .before .before .before .before .before .before .before .before .before .before .before .before .before .kind .ensures) (c .before .before .before .before .before .before .before .before .before .before .before .before .before .before .before .kind2 .ensures) (c .before .before .before .before .before .before .before .before .before .before .before .before .before .before .word-order .ensures) (search needs) (c .before .before .before .before .before .before .before .before .before .before .before .list-order .ensures) (search needs) (c .before .before .before .before .before .before .before .before .list-order2 .ensures) (search needs) (c .before .before .before .before .before .opened .ensures) (c .before .before .before .before .opened2 .ensures) (c .before .before .before .flag-order .ensures) (search needs) (c .optional-order .ensures)
 
 pub parts-order-spec : {M : Type 1} → statement M
 parts-order-spec =

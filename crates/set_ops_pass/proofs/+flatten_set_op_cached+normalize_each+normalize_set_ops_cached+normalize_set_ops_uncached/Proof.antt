@@ -1,7 +1,16 @@
 -- The cycle: the measure is three times the node's number, and then which half.
 use Prim.Native.Nat.{ℕ, _+_, _-_, _*_, _<_}
+use mathlib.Core.Path.{refl}
+use mathlib.Core.List.{[]}
 use borrow.Author.Needs.{needs}
-use Rattle.recursion.specs.Work.{Grown}
+use Rattle.types.proofs.Refusals.{told-on}
+use Rattle.node_store.specs.Intern.{interned-out}
+use Rattle.node_store.specs.declared.added.Interned.the-variants as interned
+use Rattle.recursion.specs.Inner.Work.{run-out}
+use Rattle.recursion.specs.declared.Run.the-variants as run
+use Rattle.set_op_lists.specs.Inner.{brought-out}
+use Rattle.set_op_lists.specs.declared.Brought.the-variants as brought
+use Rattle.recursion.specs.Inner.Work.{Grown}
 use Rattle.recursion.proofs.Remembering.{ready-small, cached-done, remember-room, remembered}
 use Rattle.recursion.proofs.Turns.{Turn, turn-start, turn-item, turn-falls, turn-ready, turn-refused, turn-more, turn-done}
 use Rattle.set_op_lists.specs.SetOps.{normalize}
@@ -39,6 +48,9 @@ use Rattle.set_ops_pass.proofs.+flatten_set_op_cached+normalize_each+no
 use Rattle.set_ops_pass.proofs.+flatten_set_op_cached+normalize_each+normalize_set_ops_cached+normalize_set_ops_uncached.Tie.{
   close,
 }
+use Rattle.node_store.proofs.added.Interned.refusal.Reads as added-Interned-refusal-reads
+use Rattle.recursion.proofs.Run.refusal.Reads as Run-refusal-reads
+use Rattle.set_op_lists.proofs.Brought.refusal.Reads as Brought-refusal-reads
 
 abbrev μ-flatten-set-op-cached : Measures 3 flatten-set-op-cached-kinds.ps ℕ
 μ-flatten-set-op-cached κs a = 3 * (a .1 .1 .1 .0)
@@ -117,33 +129,36 @@ normalize-set-ops-uncached-below t =
     normalize-set-ops-uncached.Pre
 
 abbrev flatten-set-op-cached-claims : ℕ → flatten-set-op-cached-lts.Claims
-flatten-set-op-cached-claims t = (member-count-reads.Asked, member-count-reads.Learnt, member-at-reads.Asked, member-at-reads.Learnt, normalize-set-ops-cached-below t, normalize-set-ops-cached.Post, bring-reads.Asked, bring-reads.Learnt, close-list-reads.Asked, close-list-reads.Learnt)
+flatten-set-op-cached-claims t = (member-count-reads.Asked, member-count-reads.Learnt, member-at-reads.Asked, member-at-reads.Learnt, normalize-set-ops-cached-below t, normalize-set-ops-cached.Post, bring-reads.Asked, bring-reads.Learnt, Brought-refusal-reads.Asked, Brought-refusal-reads.Learnt, close-list-reads.Asked, close-list-reads.Learnt)
 
 abbrev normalize-each-claims : ℕ → normalize-each-lts.Claims
-normalize-each-claims t = (item-at-reads.Asked, item-at-reads.Learnt, normalize-set-ops-cached-below t, normalize-set-ops-cached.Post)
+normalize-each-claims t = (item-at-reads.Asked, item-at-reads.Learnt, normalize-set-ops-cached-below t, normalize-set-ops-cached.Post, added-Interned-refusal-reads.Asked, added-Interned-refusal-reads.Learnt)
 
 abbrev normalize-set-ops-cached-claims : ℕ → normalize-set-ops-cached-lts.Claims
 normalize-set-ops-cached-claims t = (cached-reads.Asked, cached-reads.Learnt, normalize-set-ops-uncached-below t, normalize-set-ops-uncached.Post, remember-reads.Asked, remember-reads.Learnt)
 
 abbrev normalize-set-ops-uncached-claims : ℕ → normalize-set-ops-uncached-lts.Claims
-normalize-set-ops-uncached-claims t = (wide-reads.Asked, wide-reads.Learnt, kind-at-reads.Asked, kind-at-reads.Learnt, flatten-set-op-cached-below t, flatten-set-op-cached.Post, all-children-reads.Asked, all-children-reads.Learnt, normalize-each-below t, normalize-each.Post, rebuild-reads.Asked, rebuild-reads.Learnt)
+normalize-set-ops-uncached-claims t = (wide-reads.Asked, wide-reads.Learnt, kind-at-reads.Asked, kind-at-reads.Learnt, flatten-set-op-cached-below t, flatten-set-op-cached.Post, all-children-reads.Asked, all-children-reads.Learnt, normalize-each-below t, normalize-each.Post, Run-refusal-reads.Asked, Run-refusal-reads.Learnt, rebuild-reads.Asked, rebuild-reads.Learnt)
 
 abbrev flatten-set-op-cached-Inv-loop : flatten-set-op-cached-lts.InvT-loop
-flatten-set-op-cached-Inv-loop words₀ starts₀ n kind cache₀ total items₀ held₀ last₀ i₀ words starts cache items held last i = FlatTurn words₀ starts₀ last₀ n kind cache₀ total words starts cache items held last i
+flatten-set-op-cached-Inv-loop words₀ starts₀ n kind cache₀ total list₀ last₀ i₀ words starts cache list last i = FlatTurn words₀ starts₀ last₀ n kind cache₀ total words starts cache (list .items) (list .count) last i
 
 abbrev flatten-set-op-cached-μ-loop : flatten-set-op-cached-lts.MeasureT-loop
-flatten-set-op-cached-μ-loop words₀ starts₀ n kind cache₀ total items₀ held₀ last₀ i₀ words starts cache items held last i = total - i
+flatten-set-op-cached-μ-loop words₀ starts₀ n kind cache₀ total list₀ last₀ i₀ words starts cache list last i = total - i
 
-flatten-set-op-cached-member-count-requires : (t : ℕ) → flatten-set-op-cached-lts.Need-member-count-requires (flatten-set-op-cached-claims t) (flatten-set-op-cached-at t) flatten-set-op-cached.Post flatten-set-op-cached-Inv-loop flatten-set-op-cached-μ-loop
+flatten-set-op-cached-member-count-requires :
+    (t : ℕ) → flatten-set-op-cached-lts.Need-member-count-requires (flatten-set-op-cached-claims t) (flatten-set-op-cached-at t) flatten-set-op-cached.Post flatten-set-op-cached-Inv-loop flatten-set-op-cached-μ-loop
 flatten-set-op-cached-member-count-requires t c κs = search list-range
 
 flatten-set-op-cached-loop-holds : (t : ℕ) → flatten-set-op-cached-lts.Need-loop-holds (flatten-set-op-cached-claims t) (flatten-set-op-cached-at t) flatten-set-op-cached.Post flatten-set-op-cached-Inv-loop flatten-set-op-cached-μ-loop
 flatten-set-op-cached-loop-holds t c = search flat-start
 
-flatten-set-op-cached-member-at-requires : (t : ℕ) → flatten-set-op-cached-lts.Need-member-at-requires (flatten-set-op-cached-claims t) (flatten-set-op-cached-at t) flatten-set-op-cached.Post flatten-set-op-cached-Inv-loop flatten-set-op-cached-μ-loop
+flatten-set-op-cached-member-at-requires :
+    (t : ℕ) → flatten-set-op-cached-lts.Need-member-at-requires (flatten-set-op-cached-claims t) (flatten-set-op-cached-at t) flatten-set-op-cached.Post flatten-set-op-cached-Inv-loop flatten-set-op-cached-μ-loop
 flatten-set-op-cached-member-at-requires t c κs = search flat-member
 
-flatten-set-op-cached-normalize-set-ops-cached-requires : (t : ℕ) → flatten-set-op-cached-lts.Need-normalize-set-ops-cached-requires (flatten-set-op-cached-claims t) (flatten-set-op-cached-at t) flatten-set-op-cached.Post flatten-set-op-cached-Inv-loop flatten-set-op-cached-μ-loop
+flatten-set-op-cached-normalize-set-ops-cached-requires :
+    (t : ℕ) → flatten-set-op-cached-lts.Need-normalize-set-ops-cached-requires (flatten-set-op-cached-claims t) (flatten-set-op-cached-at t) flatten-set-op-cached.Post flatten-set-op-cached-Inv-loop flatten-set-op-cached-μ-loop
 flatten-set-op-cached-normalize-set-ops-cached-requires t c κs = (search flat-falls, search flat-ready)
 
 flatten-set-op-cached-bring-requires : (t : ℕ) → flatten-set-op-cached-lts.Need-bring-requires (flatten-set-op-cached-claims t) (flatten-set-op-cached-at t) flatten-set-op-cached.Post flatten-set-op-cached-Inv-loop flatten-set-op-cached-μ-loop
@@ -152,6 +167,12 @@ flatten-set-op-cached-bring-requires t c κs = flat-brings (c .before .before .b
 flatten-set-op-cached-enum-known-b : (t : ℕ) → flatten-set-op-cached-lts.Need-enum-known-b (flatten-set-op-cached-claims t) (flatten-set-op-cached-at t) flatten-set-op-cached.Post flatten-set-op-cached-Inv-loop flatten-set-op-cached-μ-loop
 flatten-set-op-cached-enum-known-b t c = search needs
 
+flatten-set-op-cached-enum-told : (t : ℕ) → flatten-set-op-cached-lts.Need-enum-told (flatten-set-op-cached-claims t) (flatten-set-op-cached-at t) flatten-set-op-cached.Post flatten-set-op-cached-Inv-loop flatten-set-op-cached-μ-loop
+flatten-set-op-cached-enum-told t c = search needs
+
+flatten-set-op-cached-refusal-requires : (t : ℕ) → flatten-set-op-cached-lts.Need-refusal-requires (flatten-set-op-cached-claims t) (flatten-set-op-cached-at t) flatten-set-op-cached.Post flatten-set-op-cached-Inv-loop flatten-set-op-cached-μ-loop
+flatten-set-op-cached-refusal-requires t c κs = search needs
+
 flatten-set-op-cached-same-length : (t : ℕ) → flatten-set-op-cached-lts.Need-same-length (flatten-set-op-cached-claims t) (flatten-set-op-cached-at t) flatten-set-op-cached.Post flatten-set-op-cached-Inv-loop flatten-set-op-cached-μ-loop
 flatten-set-op-cached-same-length t c = search needs
 
@@ -159,10 +180,7 @@ flatten-set-op-cached-same-length-2 : (t : ℕ) → flatten-set-op-cached-lts.Ne
 flatten-set-op-cached-same-length-2 t c = search needs
 
 flatten-set-op-cached-returns : (t : ℕ) → flatten-set-op-cached-lts.Need-returns (flatten-set-op-cached-claims t) (flatten-set-op-cached-at t) flatten-set-op-cached.Post flatten-set-op-cached-Inv-loop flatten-set-op-cached-μ-loop
-flatten-set-op-cached-returns t c = search (flat-refused (c .before .before .before .before .before .before .before .before .before .before .before .before .before .before .before .before .before .before .before .loop .inv) (c .before .before .before .before .before .before .before .before .before .before .before .before .before .before .before .before .before .before .loop-test .taken) (c .before .before .before .before .before .before .before .before .before .before .before .before .before .before .before .member-at .ensures) (c .before .before .before .before .before .before .before .before .before .before .before .normalize-set-ops-cached .ensures) (c .before .before .before .bring .ensures))
-
-flatten-set-op-cached-enum-known-b-2 : (t : ℕ) → flatten-set-op-cached-lts.Need-enum-known-b-2 (flatten-set-op-cached-claims t) (flatten-set-op-cached-at t) flatten-set-op-cached.Post flatten-set-op-cached-Inv-loop flatten-set-op-cached-μ-loop
-flatten-set-op-cached-enum-known-b-2 t c = search needs
+flatten-set-op-cached-returns t c = flat-refused (c .before .before .before .before .before .before .before .before .before .before .before .before .before .before .before .before .before .before .before .loop .inv) (c .before .before .before .before .before .before .before .before .before .before .before .before .before .before .before .before .before .before .loop-test .taken) (c .before .before .before .before .before .before .before .before .before .before .before .before .before .before .before .member-at .ensures) (c .before .before .before .before .before .before .before .before .before .before .before .normalize-set-ops-cached .ensures) (c .before .before .before .bring .ensures) (told-on brought.Refused (brought-out []) (λ e. refl) (c .before .enum-told .given .1) (c .refusal .ensures))
 
 flatten-set-op-cached-add-i : (t : ℕ) → flatten-set-op-cached-lts.Need-add-i (flatten-set-op-cached-claims t) (flatten-set-op-cached-at t) flatten-set-op-cached.Post flatten-set-op-cached-Inv-loop flatten-set-op-cached-μ-loop
 flatten-set-op-cached-add-i t c = search needs
@@ -171,9 +189,10 @@ flatten-set-op-cached-loop-less : (t : ℕ) → flatten-set-op-cached-lts.Need-l
 flatten-set-op-cached-loop-less t c = search needs
 
 flatten-set-op-cached-loop-again : (t : ℕ) → flatten-set-op-cached-lts.Need-loop-again (flatten-set-op-cached-claims t) (flatten-set-op-cached-at t) flatten-set-op-cached.Post flatten-set-op-cached-Inv-loop flatten-set-op-cached-μ-loop
-flatten-set-op-cached-loop-again t c = search (flat-more (c .before .before .before .before .before .before .before .before .before .before .before .before .before .before .before .before .before .before .before .loop .inv) (c .before .before .before .before .before .before .before .before .before .before .before .before .before .before .before .before .before .before .loop-test .taken) (c .before .before .before .before .before .before .before .before .before .before .before .before .before .before .before .member-at .ensures) (c .before .before .before .before .before .before .before .before .before .before .before .normalize-set-ops-cached .ensures) (c .before .before .before .bring .ensures))
+flatten-set-op-cached-loop-again t c = flat-more (c .before .before .before .before .before .before .before .before .before .before .before .before .before .before .before .before .before .before .before .loop .inv) (c .before .before .before .before .before .before .before .before .before .before .before .before .before .before .before .before .before .before .loop-test .taken) (c .before .before .before .before .before .before .before .before .before .before .before .before .before .before .before .member-at .ensures) (c .before .before .before .before .before .before .before .before .before .before .before .normalize-set-ops-cached .ensures) (c .before .before .before .bring .ensures) (c .before .b .given .1) (search needs) (search needs)
 
-flatten-set-op-cached-close-list-requires : (t : ℕ) → flatten-set-op-cached-lts.Need-close-list-requires (flatten-set-op-cached-claims t) (flatten-set-op-cached-at t) flatten-set-op-cached.Post flatten-set-op-cached-Inv-loop flatten-set-op-cached-μ-loop
+flatten-set-op-cached-close-list-requires :
+    (t : ℕ) → flatten-set-op-cached-lts.Need-close-list-requires (flatten-set-op-cached-claims t) (flatten-set-op-cached-at t) flatten-set-op-cached.Post flatten-set-op-cached-Inv-loop flatten-set-op-cached-μ-loop
 flatten-set-op-cached-close-list-requires t c κs = search flat-filled
 
 flatten-set-op-cached-same-length-3 : (t : ℕ) → flatten-set-op-cached-lts.Need-same-length-3 (flatten-set-op-cached-claims t) (flatten-set-op-cached-at t) flatten-set-op-cached.Post flatten-set-op-cached-Inv-loop flatten-set-op-cached-μ-loop
@@ -197,11 +216,18 @@ normalize-each-loop-holds t c = search turn-start
 normalize-each-item-at-requires : (t : ℕ) → normalize-each-lts.Need-item-at-requires (normalize-each-claims t) (normalize-each-at t) normalize-each.Post normalize-each-Inv-loop normalize-each-μ-loop
 normalize-each-item-at-requires t c κs = search turn-item
 
-normalize-each-normalize-set-ops-cached-requires : (t : ℕ) → normalize-each-lts.Need-normalize-set-ops-cached-requires (normalize-each-claims t) (normalize-each-at t) normalize-each.Post normalize-each-Inv-loop normalize-each-μ-loop
+normalize-each-normalize-set-ops-cached-requires :
+    (t : ℕ) → normalize-each-lts.Need-normalize-set-ops-cached-requires (normalize-each-claims t) (normalize-each-at t) normalize-each.Post normalize-each-Inv-loop normalize-each-μ-loop
 normalize-each-normalize-set-ops-cached-requires t c κs = (search turn-falls, search (turn-ready, lawful))
 
 normalize-each-enum-known-r : (t : ℕ) → normalize-each-lts.Need-enum-known-r (normalize-each-claims t) (normalize-each-at t) normalize-each.Post normalize-each-Inv-loop normalize-each-μ-loop
 normalize-each-enum-known-r t c = search needs
+
+normalize-each-enum-told : (t : ℕ) → normalize-each-lts.Need-enum-told (normalize-each-claims t) (normalize-each-at t) normalize-each.Post normalize-each-Inv-loop normalize-each-μ-loop
+normalize-each-enum-told t c = search needs
+
+normalize-each-refusal-requires : (t : ℕ) → normalize-each-lts.Need-refusal-requires (normalize-each-claims t) (normalize-each-at t) normalize-each.Post normalize-each-Inv-loop normalize-each-μ-loop
+normalize-each-refusal-requires t c κs = search needs
 
 normalize-each-same-length : (t : ℕ) → normalize-each-lts.Need-same-length (normalize-each-claims t) (normalize-each-at t) normalize-each.Post normalize-each-Inv-loop normalize-each-μ-loop
 normalize-each-same-length t c = search needs
@@ -210,10 +236,7 @@ normalize-each-same-length-2 : (t : ℕ) → normalize-each-lts.Need-same-length
 normalize-each-same-length-2 t c = search needs
 
 normalize-each-returns : (t : ℕ) → normalize-each-lts.Need-returns (normalize-each-claims t) (normalize-each-at t) normalize-each.Post normalize-each-Inv-loop normalize-each-μ-loop
-normalize-each-returns t c = search (turn-refused (c .before .before .before .before .before .before .before .before .before .before .before .before .before .before .loop .inv) (c .before .before .before .before .before .before .before .before .before .before .before .before .before .loop-test .taken) (c .before .before .before .before .before .before .before .before .before .before .before .item-at .ensures) lawful (c .before .before .before .before .before .before .before .normalize-set-ops-cached .ensures))
-
-normalize-each-enum-known-r-2 : (t : ℕ) → normalize-each-lts.Need-enum-known-r-2 (normalize-each-claims t) (normalize-each-at t) normalize-each.Post normalize-each-Inv-loop normalize-each-μ-loop
-normalize-each-enum-known-r-2 t c = search needs
+normalize-each-returns t c = turn-refused (c .before .before .before .before .before .before .before .before .before .before .before .before .before .before .loop .inv) (c .before .before .before .before .before .before .before .before .before .before .before .before .before .loop-test .taken) (c .before .before .before .before .before .before .before .before .before .before .before .item-at .ensures) lawful (c .before .before .before .before .before .before .before .normalize-set-ops-cached .ensures) (told-on interned.Refused interned-out (λ e. refl) (c .before .enum-told .given .1) (c .refusal .ensures))
 
 normalize-each-mul-items : (t : ℕ) → normalize-each-lts.Need-mul-items (normalize-each-claims t) (normalize-each-at t) normalize-each.Post normalize-each-Inv-loop normalize-each-μ-loop
 normalize-each-mul-items t c = search needs
@@ -228,7 +251,7 @@ normalize-each-loop-less : (t : ℕ) → normalize-each-lts.Need-loop-less (norm
 normalize-each-loop-less t c = search needs
 
 normalize-each-loop-again : (t : ℕ) → normalize-each-lts.Need-loop-again (normalize-each-claims t) (normalize-each-at t) normalize-each.Post normalize-each-Inv-loop normalize-each-μ-loop
-normalize-each-loop-again t c = search (turn-more (c .before .before .before .before .before .before .before .before .before .before .before .before .before .before .loop .inv) (c .before .before .before .before .before .before .before .before .before .before .before .before .before .loop-test .taken) (c .before .before .before .before .before .before .before .before .before .before .before .item-at .ensures) lawful (c .before .before .before .before .before .before .before .normalize-set-ops-cached .ensures))
+normalize-each-loop-again t c = turn-more (c .before .before .before .before .before .before .before .before .before .before .before .before .before .before .loop .inv) (c .before .before .before .before .before .before .before .before .before .before .before .before .before .loop-test .taken) (c .before .before .before .before .before .before .before .before .before .before .before .item-at .ensures) lawful (c .before .before .before .before .before .before .before .normalize-set-ops-cached .ensures) (c .before .r .given .1) (search needs) (search needs)
 
 normalize-each-same-length-3 : (t : ℕ) → normalize-each-lts.Need-same-length-3 (normalize-each-claims t) (normalize-each-at t) normalize-each.Post normalize-each-Inv-loop normalize-each-μ-loop
 normalize-each-same-length-3 t c = search needs
@@ -239,7 +262,8 @@ normalize-each-same-length-4 t c = search needs
 normalize-each-returns-2 : (t : ℕ) → normalize-each-lts.Need-returns-2 (normalize-each-claims t) (normalize-each-at t) normalize-each.Post normalize-each-Inv-loop normalize-each-μ-loop
 normalize-each-returns-2 t c = search turn-done
 
-normalize-set-ops-cached-cached-requires : (t : ℕ) → normalize-set-ops-cached-lts.Need-cached-requires (normalize-set-ops-cached-claims t) (normalize-set-ops-cached-at t) normalize-set-ops-cached.Post
+normalize-set-ops-cached-cached-requires :
+    (t : ℕ) → normalize-set-ops-cached-lts.Need-cached-requires (normalize-set-ops-cached-claims t) (normalize-set-ops-cached-at t) normalize-set-ops-cached.Post
 normalize-set-ops-cached-cached-requires t c κs = search (ready-small, lawful)
 
 normalize-set-ops-cached-sub-t12 : (t : ℕ) → normalize-set-ops-cached-lts.Need-sub-t12 (normalize-set-ops-cached-claims t) (normalize-set-ops-cached-at t) normalize-set-ops-cached.Post
@@ -248,7 +272,8 @@ normalize-set-ops-cached-sub-t12 t c = search needs
 normalize-set-ops-cached-returns : (t : ℕ) → normalize-set-ops-cached-lts.Need-returns (normalize-set-ops-cached-claims t) (normalize-set-ops-cached-at t) normalize-set-ops-cached.Post
 normalize-set-ops-cached-returns t c = search (cached-done, lawful)
 
-normalize-set-ops-cached-normalize-set-ops-uncached-requires : (t : ℕ) → normalize-set-ops-cached-lts.Need-normalize-set-ops-uncached-requires (normalize-set-ops-cached-claims t) (normalize-set-ops-cached-at t) normalize-set-ops-cached.Post
+normalize-set-ops-cached-normalize-set-ops-uncached-requires :
+    (t : ℕ) → normalize-set-ops-cached-lts.Need-normalize-set-ops-uncached-requires (normalize-set-ops-cached-claims t) (normalize-set-ops-cached-at t) normalize-set-ops-cached.Post
 normalize-set-ops-cached-normalize-set-ops-uncached-requires t c κs = (search same-falls, search needs)
 
 normalize-set-ops-cached-enum-known-r : (t : ℕ) → normalize-set-ops-cached-lts.Need-enum-known-r (normalize-set-ops-cached-claims t) (normalize-set-ops-cached-at t) normalize-set-ops-cached.Post
@@ -266,7 +291,8 @@ normalize-set-ops-cached-same-length-2 t c = search needs
 normalize-set-ops-cached-returns-2 : (t : ℕ) → normalize-set-ops-cached-lts.Need-returns-2 (normalize-set-ops-cached-claims t) (normalize-set-ops-cached-at t) normalize-set-ops-cached.Post
 normalize-set-ops-cached-returns-2 t c = search needs
 
-normalize-set-ops-cached-remember-requires : (t : ℕ) → normalize-set-ops-cached-lts.Need-remember-requires (normalize-set-ops-cached-claims t) (normalize-set-ops-cached-at t) normalize-set-ops-cached.Post
+normalize-set-ops-cached-remember-requires :
+    (t : ℕ) → normalize-set-ops-cached-lts.Need-remember-requires (normalize-set-ops-cached-claims t) (normalize-set-ops-cached-at t) normalize-set-ops-cached.Post
 normalize-set-ops-cached-remember-requires t c κs = search (remember-room lawful (c .before .before .before .before .before .before .before .before .before .before .before .before .before .before .before .before .before .pre .1) (c .before .before .before .before .before .before .before .before .normalize-set-ops-uncached .ensures))
 
 normalize-set-ops-cached-same-length-3 : (t : ℕ) → normalize-set-ops-cached-lts.Need-same-length-3 (normalize-set-ops-cached-claims t) (normalize-set-ops-cached-at t) normalize-set-ops-cached.Post
@@ -278,56 +304,72 @@ normalize-set-ops-cached-same-length-4 t c = search needs
 normalize-set-ops-cached-returns-3 : (t : ℕ) → normalize-set-ops-cached-lts.Need-returns-3 (normalize-set-ops-cached-claims t) (normalize-set-ops-cached-at t) normalize-set-ops-cached.Post
 normalize-set-ops-cached-returns-3 t c = search (remembered, lawful)
 
-normalize-set-ops-uncached-wide-requires : (t : ℕ) → normalize-set-ops-uncached-lts.Need-wide-requires (normalize-set-ops-uncached-claims t) (normalize-set-ops-uncached-at t) normalize-set-ops-uncached.Post
+normalize-set-ops-uncached-wide-requires :
+    (t : ℕ) → normalize-set-ops-uncached-lts.Need-wide-requires (normalize-set-ops-uncached-claims t) (normalize-set-ops-uncached-at t) normalize-set-ops-uncached.Post
 normalize-set-ops-uncached-wide-requires t c κs = search needs
 
-normalize-set-ops-uncached-kind-at-requires : (t : ℕ) → normalize-set-ops-uncached-lts.Need-kind-at-requires (normalize-set-ops-uncached-claims t) (normalize-set-ops-uncached-at t) normalize-set-ops-uncached.Post
+normalize-set-ops-uncached-kind-at-requires :
+    (t : ℕ) → normalize-set-ops-uncached-lts.Need-kind-at-requires (normalize-set-ops-uncached-claims t) (normalize-set-ops-uncached-at t) normalize-set-ops-uncached.Post
 normalize-set-ops-uncached-kind-at-requires t c κs = search ready-wide
 
-normalize-set-ops-uncached-flatten-set-op-cached-requires : (t : ℕ) → normalize-set-ops-uncached-lts.Need-flatten-set-op-cached-requires (normalize-set-ops-uncached-claims t) (normalize-set-ops-uncached-at t) normalize-set-ops-uncached.Post
+normalize-set-ops-uncached-flatten-set-op-cached-requires :
+    (t : ℕ) → normalize-set-ops-uncached-lts.Need-flatten-set-op-cached-requires (normalize-set-ops-uncached-claims t) (normalize-set-ops-uncached-at t) normalize-set-ops-uncached.Post
 normalize-set-ops-uncached-flatten-set-op-cached-requires t c κs = (search each-falls, search list-ready)
 
 normalize-set-ops-uncached-same-length : (t : ℕ) → normalize-set-ops-uncached-lts.Need-same-length (normalize-set-ops-uncached-claims t) (normalize-set-ops-uncached-at t) normalize-set-ops-uncached.Post
 normalize-set-ops-uncached-same-length t c = search needs
 
-normalize-set-ops-uncached-same-length-2 : (t : ℕ) → normalize-set-ops-uncached-lts.Need-same-length-2 (normalize-set-ops-uncached-claims t) (normalize-set-ops-uncached-at t) normalize-set-ops-uncached.Post
+normalize-set-ops-uncached-same-length-2 :
+    (t : ℕ) → normalize-set-ops-uncached-lts.Need-same-length-2 (normalize-set-ops-uncached-claims t) (normalize-set-ops-uncached-at t) normalize-set-ops-uncached.Post
 normalize-set-ops-uncached-same-length-2 t c = search needs
 
 normalize-set-ops-uncached-returns : (t : ℕ) → normalize-set-ops-uncached-lts.Need-returns (normalize-set-ops-uncached-claims t) (normalize-set-ops-uncached-at t) normalize-set-ops-uncached.Post
 normalize-set-ops-uncached-returns t c = search needs
 
-normalize-set-ops-uncached-all-children-requires : (t : ℕ) → normalize-set-ops-uncached-lts.Need-all-children-requires (normalize-set-ops-uncached-claims t) (normalize-set-ops-uncached-at t) normalize-set-ops-uncached.Post
+normalize-set-ops-uncached-all-children-requires :
+    (t : ℕ) → normalize-set-ops-uncached-lts.Need-all-children-requires (normalize-set-ops-uncached-claims t) (normalize-set-ops-uncached-at t) normalize-set-ops-uncached.Post
 normalize-set-ops-uncached-all-children-requires t c κs = search ready-range
 
-normalize-set-ops-uncached-normalize-each-requires : (t : ℕ) → normalize-set-ops-uncached-lts.Need-normalize-each-requires (normalize-set-ops-uncached-claims t) (normalize-set-ops-uncached-at t) normalize-set-ops-uncached.Post
+normalize-set-ops-uncached-normalize-each-requires :
+    (t : ℕ) → normalize-set-ops-uncached-lts.Need-normalize-each-requires (normalize-set-ops-uncached-claims t) (normalize-set-ops-uncached-at t) normalize-set-ops-uncached.Post
 normalize-set-ops-uncached-normalize-each-requires t c κs = (search each-falls, search children-ready)
 
-normalize-set-ops-uncached-enum-known-r : (t : ℕ) → normalize-set-ops-uncached-lts.Need-enum-known-r (normalize-set-ops-uncached-claims t) (normalize-set-ops-uncached-at t) normalize-set-ops-uncached.Post
+normalize-set-ops-uncached-enum-known-r :
+    (t : ℕ) → normalize-set-ops-uncached-lts.Need-enum-known-r (normalize-set-ops-uncached-claims t) (normalize-set-ops-uncached-at t) normalize-set-ops-uncached.Post
 normalize-set-ops-uncached-enum-known-r t c = search needs
 
-normalize-set-ops-uncached-rebuild-requires : (t : ℕ) → normalize-set-ops-uncached-lts.Need-rebuild-requires (normalize-set-ops-uncached-claims t) (normalize-set-ops-uncached-at t) normalize-set-ops-uncached.Post
-normalize-set-ops-uncached-rebuild-requires t c κs = rebuilding (c .before .before .before .before .before .before .before .before .before .before .before .before .before .before .before .before .before .before .before .before .before .before .before .before .before .before .pre .1) (c .before .before .before .before .before .before .before .before .before .before .before .before .before .before .before .before .all-children .ensures) (c .before .before .before .before .before .before .before .before .before .before .before .normalize-each .ensures) (c .before .before .before .before .before .r .given .1)
+normalize-set-ops-uncached-enum-told : (t : ℕ) → normalize-set-ops-uncached-lts.Need-enum-told (normalize-set-ops-uncached-claims t) (normalize-set-ops-uncached-at t) normalize-set-ops-uncached.Post
+normalize-set-ops-uncached-enum-told t c = search needs
 
-normalize-set-ops-uncached-enum-known-r-2 : (t : ℕ) → normalize-set-ops-uncached-lts.Need-enum-known-r-2 (normalize-set-ops-uncached-claims t) (normalize-set-ops-uncached-at t) normalize-set-ops-uncached.Post
-normalize-set-ops-uncached-enum-known-r-2 t c = search needs
+normalize-set-ops-uncached-refusal-requires :
+    (t : ℕ) → normalize-set-ops-uncached-lts.Need-refusal-requires (normalize-set-ops-uncached-claims t) (normalize-set-ops-uncached-at t) normalize-set-ops-uncached.Post
+normalize-set-ops-uncached-refusal-requires t c κs = search needs
 
-normalize-set-ops-uncached-same-length-3 : (t : ℕ) → normalize-set-ops-uncached-lts.Need-same-length-3 (normalize-set-ops-uncached-claims t) (normalize-set-ops-uncached-at t) normalize-set-ops-uncached.Post
+normalize-set-ops-uncached-same-length-3 :
+    (t : ℕ) → normalize-set-ops-uncached-lts.Need-same-length-3 (normalize-set-ops-uncached-claims t) (normalize-set-ops-uncached-at t) normalize-set-ops-uncached.Post
 normalize-set-ops-uncached-same-length-3 t c = search needs
 
-normalize-set-ops-uncached-same-length-4 : (t : ℕ) → normalize-set-ops-uncached-lts.Need-same-length-4 (normalize-set-ops-uncached-claims t) (normalize-set-ops-uncached-at t) normalize-set-ops-uncached.Post
+normalize-set-ops-uncached-same-length-4 :
+    (t : ℕ) → normalize-set-ops-uncached-lts.Need-same-length-4 (normalize-set-ops-uncached-claims t) (normalize-set-ops-uncached-at t) normalize-set-ops-uncached.Post
 normalize-set-ops-uncached-same-length-4 t c = search needs
 
 normalize-set-ops-uncached-returns-2 : (t : ℕ) → normalize-set-ops-uncached-lts.Need-returns-2 (normalize-set-ops-uncached-claims t) (normalize-set-ops-uncached-at t) normalize-set-ops-uncached.Post
-normalize-set-ops-uncached-returns-2 t c = search (other-done (c .before .before .before .before .before .before .before .before .before .before .before .before .before .before .before .before .before .before .before .before .before .before .before .before .before .before .before .before .before .before .before .pre .1) (c .before .before .before .before .before .before .before .before .before .before .before .before .before .before .before .before .before .before .before .before .before .before .before .before .before .before .wide .ensures) (c .before .before .before .before .before .before .before .before .before .before .before .before .before .before .before .before .before .before .before .before .before .before .before .before .before .kind-at .ensures) (c .before .before .before .before .before .before .before .before .before .before .before .before .before .before .before .before .before .before .before .before .before .all-children .ensures) (c .before .before .before .before .before .before .before .before .before .before .before .before .before .before .before .before .normalize-each .ensures) (c .before .before .before .before .before .before .before .before .before .before .r .given .1) (c .before .before .before .before .rebuild .ensures))
+normalize-set-ops-uncached-returns-2 t c = other-refused (c .before .before .before .before .before .before .before .before .before .before .before .before .before .before .before .before .before .before .before .before .before .before .pre .1) (c .before .before .before .before .before .before .before .before .before .before .before .before .before .before .before .before .before .wide .ensures) (c .before .before .before .before .before .before .before .before .before .before .before .before .before .before .before .before .kind-at .ensures) (c .before .before .before .before .before .before .before .before .before .before .before .before .all-children .ensures) (c .before .before .before .before .before .before .before .normalize-each .ensures) (told-on run.Refused run-out (λ e. refl) (c .before .enum-told .given .1) (c .refusal .ensures)) (search needs)
 
-normalize-set-ops-uncached-same-length-5 : (t : ℕ) → normalize-set-ops-uncached-lts.Need-same-length-5 (normalize-set-ops-uncached-claims t) (normalize-set-ops-uncached-at t) normalize-set-ops-uncached.Post
+normalize-set-ops-uncached-rebuild-requires :
+    (t : ℕ) → normalize-set-ops-uncached-lts.Need-rebuild-requires (normalize-set-ops-uncached-claims t) (normalize-set-ops-uncached-at t) normalize-set-ops-uncached.Post
+normalize-set-ops-uncached-rebuild-requires t c κs = rebuilding (c .before .before .before .before .before .before .before .before .before .before .before .before .before .before .before .before .before .before .before .before .before .before .before .before .before .before .pre .1) (c .before .before .before .before .before .before .before .before .before .before .before .before .before .before .before .before .all-children .ensures) (c .before .before .before .before .before .before .before .before .before .before .before .normalize-each .ensures) (c .before .before .before .before .before .r .given .1)
+
+normalize-set-ops-uncached-same-length-5 :
+    (t : ℕ) → normalize-set-ops-uncached-lts.Need-same-length-5 (normalize-set-ops-uncached-claims t) (normalize-set-ops-uncached-at t) normalize-set-ops-uncached.Post
 normalize-set-ops-uncached-same-length-5 t c = search needs
 
-normalize-set-ops-uncached-same-length-6 : (t : ℕ) → normalize-set-ops-uncached-lts.Need-same-length-6 (normalize-set-ops-uncached-claims t) (normalize-set-ops-uncached-at t) normalize-set-ops-uncached.Post
+normalize-set-ops-uncached-same-length-6 :
+    (t : ℕ) → normalize-set-ops-uncached-lts.Need-same-length-6 (normalize-set-ops-uncached-claims t) (normalize-set-ops-uncached-at t) normalize-set-ops-uncached.Post
 normalize-set-ops-uncached-same-length-6 t c = search needs
 
 normalize-set-ops-uncached-returns-3 : (t : ℕ) → normalize-set-ops-uncached-lts.Need-returns-3 (normalize-set-ops-uncached-claims t) (normalize-set-ops-uncached-at t) normalize-set-ops-uncached.Post
-normalize-set-ops-uncached-returns-3 t c = search other-refused
+normalize-set-ops-uncached-returns-3 t c = other-done (c .before .before .before .before .before .before .before .before .before .before .before .before .before .before .before .before .before .before .before .before .before .before .before .before .before .before .before .before .before .before .before .pre .1) (c .before .before .before .before .before .before .before .before .before .before .before .before .before .before .before .before .before .before .before .before .before .before .before .before .before .before .wide .ensures) (c .before .before .before .before .before .before .before .before .before .before .before .before .before .before .before .before .before .before .before .before .before .before .before .before .before .kind-at .ensures) (c .before .before .before .before .before .before .before .before .before .before .before .before .before .before .before .before .before .before .before .before .before .all-children .ensures) (c .before .before .before .before .before .before .before .before .before .before .before .before .before .before .before .before .normalize-each .ensures) (c .before .before .before .before .before .before .before .before .before .before .r .given .1) (c .before .before .before .before .rebuild .ensures) (search needs) (search needs) (search needs) (search needs) (search needs)
 
 pub +flatten-set-op-cached+normalize-each+normalize-set-ops-cached+normalize-set-ops-uncached-spec :
     {M : Type 1} → statement M
@@ -337,18 +379,7 @@ pub +flatten-set-op-cached+normalize-each+normalize-set-ops-cached+normalize-set
     μ-normalize-each
     μ-normalize-set-ops-cached
     μ-normalize-set-ops-uncached
-    (λ t. flatten-set-op-cached-lts.spec (
-      member-count-reads.Asked,
-      member-count-reads.Learnt,
-      member-at-reads.Asked,
-      member-at-reads.Learnt,
-      normalize-set-ops-cached-below t,
-      normalize-set-ops-cached.Post,
-      bring-reads.Asked,
-      bring-reads.Learnt,
-      close-list-reads.Asked,
-      close-list-reads.Learnt,
-    )
+    (λ t. flatten-set-op-cached-lts.spec (flatten-set-op-cached-claims t)
     (flatten-set-op-cached-at t)
     flatten-set-op-cached.Post
     flatten-set-op-cached-Inv-loop
@@ -359,10 +390,11 @@ pub +flatten-set-op-cached+normalize-each+normalize-set-ops-cached+normalize-set
     (flatten-set-op-cached-normalize-set-ops-cached-requires t)
     (flatten-set-op-cached-bring-requires t)
     (flatten-set-op-cached-enum-known-b t)
+    (flatten-set-op-cached-enum-told t)
+    (flatten-set-op-cached-refusal-requires t)
     (flatten-set-op-cached-same-length t)
     (flatten-set-op-cached-same-length-2 t)
     (flatten-set-op-cached-returns t)
-    (flatten-set-op-cached-enum-known-b-2 t)
     (flatten-set-op-cached-add-i t)
     (flatten-set-op-cached-loop-less t)
     (flatten-set-op-cached-loop-again t)
@@ -370,12 +402,7 @@ pub +flatten-set-op-cached+normalize-each+normalize-set-ops-cached+normalize-set
     (flatten-set-op-cached-same-length-3 t)
     (flatten-set-op-cached-same-length-4 t)
     (flatten-set-op-cached-returns-2 t))
-    (λ t. normalize-each-lts.spec (
-      item-at-reads.Asked,
-      item-at-reads.Learnt,
-      normalize-set-ops-cached-below t,
-      normalize-set-ops-cached.Post,
-    )
+    (λ t. normalize-each-lts.spec (normalize-each-claims t)
     (normalize-each-at t)
     normalize-each.Post
     normalize-each-Inv-loop
@@ -384,10 +411,11 @@ pub +flatten-set-op-cached+normalize-each+normalize-set-ops-cached+normalize-set
     (normalize-each-item-at-requires t)
     (normalize-each-normalize-set-ops-cached-requires t)
     (normalize-each-enum-known-r t)
+    (normalize-each-enum-told t)
+    (normalize-each-refusal-requires t)
     (normalize-each-same-length t)
     (normalize-each-same-length-2 t)
     (normalize-each-returns t)
-    (normalize-each-enum-known-r-2 t)
     (normalize-each-mul-items t)
     (normalize-each-element-write-items t)
     (normalize-each-add-i t)
@@ -396,14 +424,7 @@ pub +flatten-set-op-cached+normalize-each+normalize-set-ops-cached+normalize-set
     (normalize-each-same-length-3 t)
     (normalize-each-same-length-4 t)
     (normalize-each-returns-2 t))
-    (λ t. normalize-set-ops-cached-lts.spec (
-      cached-reads.Asked,
-      cached-reads.Learnt,
-      normalize-set-ops-uncached-below t,
-      normalize-set-ops-uncached.Post,
-      remember-reads.Asked,
-      remember-reads.Learnt,
-    )
+    (λ t. normalize-set-ops-cached-lts.spec (normalize-set-ops-cached-claims t)
     (normalize-set-ops-cached-at t)
     normalize-set-ops-cached.Post
     (normalize-set-ops-cached-cached-requires t)
@@ -419,20 +440,7 @@ pub +flatten-set-op-cached+normalize-each+normalize-set-ops-cached+normalize-set
     (normalize-set-ops-cached-same-length-3 t)
     (normalize-set-ops-cached-same-length-4 t)
     (normalize-set-ops-cached-returns-3 t))
-    λ t. normalize-set-ops-uncached-lts.spec (
-      wide-reads.Asked,
-      wide-reads.Learnt,
-      kind-at-reads.Asked,
-      kind-at-reads.Learnt,
-      flatten-set-op-cached-below t,
-      flatten-set-op-cached.Post,
-      all-children-reads.Asked,
-      all-children-reads.Learnt,
-      normalize-each-below t,
-      normalize-each.Post,
-      rebuild-reads.Asked,
-      rebuild-reads.Learnt,
-    )
+    λ t. normalize-set-ops-uncached-lts.spec (normalize-set-ops-uncached-claims t)
     (normalize-set-ops-uncached-at t)
     normalize-set-ops-uncached.Post
     (normalize-set-ops-uncached-wide-requires t)
@@ -444,11 +452,12 @@ pub +flatten-set-op-cached+normalize-each+normalize-set-ops-cached+normalize-set
     (normalize-set-ops-uncached-all-children-requires t)
     (normalize-set-ops-uncached-normalize-each-requires t)
     (normalize-set-ops-uncached-enum-known-r t)
-    (normalize-set-ops-uncached-rebuild-requires t)
-    (normalize-set-ops-uncached-enum-known-r-2 t)
+    (normalize-set-ops-uncached-enum-told t)
+    (normalize-set-ops-uncached-refusal-requires t)
     (normalize-set-ops-uncached-same-length-3 t)
     (normalize-set-ops-uncached-same-length-4 t)
     (normalize-set-ops-uncached-returns-2 t)
+    (normalize-set-ops-uncached-rebuild-requires t)
     (normalize-set-ops-uncached-same-length-5 t)
     (normalize-set-ops-uncached-same-length-6 t)
     (normalize-set-ops-uncached-returns-3 t)

@@ -10,11 +10,29 @@ wide-requires c κs = search needs
 node-at-requires : tie.Need-node-at-requires
 node-at-requires c κs = search member-range
 
-child-at-requires : tie.Need-child-at-requires
-child-at-requires c κs = search member-inside
+child-words-requires : tie.Need-child-words-requires
+child-words-requires c κs = search needs
+
+mul-child : tie.Need-mul-child
+mul-child c = search (member-inside, needs)
+
+shared-slice-read-child : tie.Need-shared-slice-read-child
+shared-slice-read-child c = search member-inside
+
+child-requires : tie.Need-child-requires
+child-requires c κs = search needs
 
 returns : tie.Need-returns
 returns c = search member-is
 
 pub member-at-spec : {M : Type 1} → statement M
-member-at-spec = tie.close (tie.spec wide-requires node-at-requires child-at-requires returns)
+member-at-spec =
+    tie.close
+    (tie.spec
+    wide-requires
+    node-at-requires
+    child-words-requires
+    mul-child
+    shared-slice-read-child
+    child-requires
+    returns)

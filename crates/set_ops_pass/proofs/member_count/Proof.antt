@@ -10,12 +10,12 @@ wide-requires c κs = search needs
 node-at-requires : tie.Need-node-at-requires
 node-at-requires c κs = search range-wide
 
-child-count-requires : tie.Need-child-count-requires
-child-count-requires c κs = search needs
+child-words-requires : tie.Need-child-words-requires
+child-words-requires c κs = search needs
 
 returns : tie.Need-returns
 returns c = search members-counted
 
 pub member-count-spec : {M : Type 1} → statement M
 member-count-spec =
-    tie.close (tie.spec wide-requires node-at-requires child-count-requires returns)
+    tie.close (tie.spec wide-requires node-at-requires child-words-requires returns)

@@ -1,5 +1,9 @@
 -- A sheet that was read lies in memory, and its table in the input.
 use Rattle.sheet_format.proofs.Reading.{table-low, table-high, sheet-in, sheet-refused, sheet-given}
+use mathlib.Core.Path.{refl}
+use Rattle.types.proofs.Refusals.{told-on}
+use Rattle.sheet_reading.specs.Inner.Reading.{reading-out}
+use Rattle.sheet_reading.specs.declared.Reading.the-variants as reading
 use borrow.Author.Needs.{needs}
 use Rattle.sheet_format.proofs.answer_sheet.Statement.{statement}
 use Rattle.sheet_format.proofs.answer_sheet.Tie as tie
@@ -10,8 +14,20 @@ read-sheet-requires c κs = search needs
 enum-known-reading : tie.Need-enum-known-reading
 enum-known-reading c = search needs
 
-enum-known-reading-2 : tie.Need-enum-known-reading-2
-enum-known-reading-2 c = search needs
+enum-told : tie.Need-enum-told
+enum-told c = search needs
+
+refusal-requires : tie.Need-refusal-requires
+refusal-requires c κs = search needs
+
+same-length : tie.Need-same-length
+same-length c = search needs
+
+same-length-2 : tie.Need-same-length-2
+same-length-2 c = search needs
+
+returns : tie.Need-returns
+returns c = sheet-refused (c .before .before .before .before .before .before .before .read-sheet .ensures) (told-on reading.Refused reading-out (λ e. refl) (c .before .enum-told .given .1) (c .refusal .ensures))
 
 sub-answer-type : tie.Need-sub-answer-type
 sub-answer-type c = search table-low
@@ -24,15 +40,6 @@ part-answer-type-end c = search table-high
 
 answer-type-requires : tie.Need-answer-type-requires
 answer-type-requires c κs = search sheet-in
-
-same-length : tie.Need-same-length
-same-length c = search needs
-
-same-length-2 : tie.Need-same-length-2
-same-length-2 c = search needs
-
-returns : tie.Need-returns
-returns c = search sheet-refused
 
 same-length-3 : tie.Need-same-length-3
 same-length-3 c = search needs
@@ -52,14 +59,15 @@ answer-sheet-spec =
     (tie.spec
     read-sheet-requires
     enum-known-reading
-    enum-known-reading-2
+    enum-told
+    refusal-requires
+    same-length
+    same-length-2
+    returns
     sub-answer-type
     part-answer-type-start
     part-answer-type-end
     answer-type-requires
-    same-length
-    same-length-2
-    returns
     same-length-3
     same-length-4
     same-length-5

@@ -23,7 +23,7 @@ same-length : tie.Need-same-length
 same-length c = search needs
 
 returns : tie.Need-returns
-returns c = search type-written
+returns c = type-written _ _ _ (c .before .before .before .before .before .before .before .before .before .before .before .before .before .before .before .append-number .ensures) (c .before .before .before .before .before .before .before .before .before .before .before .append-number2 .ensures) (c .before .before .before .before .before .before .before .append .ensures) (c .before .before .append2 .ensures)
 
 pub write-type-spec : {M : Type 1} → statement M
 write-type-spec =

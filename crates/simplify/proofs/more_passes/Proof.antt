@@ -1,4 +1,8 @@
 -- The invariant: the passes made have taken their types, and those to come are as many as the definition has left.
+use mathlib.Core.Path.{refl}
+use Rattle.types.proofs.Refusals.{told-on}
+use Rattle.node_store.specs.Intern.{interned-out}
+use Rattle.node_store.specs.declared.added.Interned.the-variants as interned
 use Rattle.simplify.proofs.Sequences.{PassTurn, passes-start, passes-range, passes-fits, passes-refused, passes-done, passes-more, passes-ended}
 use borrow.Author.Needs.{needs}
 use Rattle.simplify.proofs.more_passes.Statement.{statement}
@@ -19,6 +23,12 @@ simplify-once-requires c κs = search passes-range
 enum-known-r : tie.Need-enum-known-r Inv-loop μ-loop
 enum-known-r c = search needs
 
+enum-told : tie.Need-enum-told Inv-loop μ-loop
+enum-told c = search needs
+
+refusal-requires : tie.Need-refusal-requires Inv-loop μ-loop
+refusal-requires c κs = search needs
+
 same-length : tie.Need-same-length Inv-loop μ-loop
 same-length c = search needs
 
@@ -26,10 +36,7 @@ same-length-2 : tie.Need-same-length-2 Inv-loop μ-loop
 same-length-2 c = search needs
 
 returns : tie.Need-returns Inv-loop μ-loop
-returns c = search passes-refused
-
-enum-known-r-2 : tie.Need-enum-known-r-2 Inv-loop μ-loop
-enum-known-r-2 c = search needs
+returns c = passes-refused (c .before .before .before .before .before .before .before .before .before .before .before .loop .inv) (c .before .before .before .before .before .before .before .before .before .before .loop-test .taken) (c .before .before .before .before .before .before .before .simplify-once .ensures) (told-on interned.Refused interned-out (λ e. refl) (c .before .enum-told .given .1) (c .refusal .ensures))
 
 sub-left : tie.Need-sub-left Inv-loop μ-loop
 sub-left c = search needs
@@ -44,13 +51,13 @@ same-length-4 : tie.Need-same-length-4 Inv-loop μ-loop
 same-length-4 c = search needs
 
 returns-2 : tie.Need-returns-2 Inv-loop μ-loop
-returns-2 c = search passes-done
+returns-2 c = passes-done (c .before .before .before .before .before .before .before .before .before .before .before .before .loop .inv) (c .before .before .before .before .before .before .before .before .before .before .before .loop-test .taken) (c .before .before .before .before .before .before .before .before .simplify-once .ensures) (c .before .before .r .given .1) (c .if1 .taken)
 
 loop-less : tie.Need-loop-less Inv-loop μ-loop
 loop-less c = search needs
 
 loop-again : tie.Need-loop-again Inv-loop μ-loop
-loop-again c = search passes-more
+loop-again c = passes-more (c .before .before .before .before .before .before .before .before .before .before .before .before .loop .inv) (c .before .before .before .before .before .before .before .before .before .before .before .loop-test .taken) (c .before .before .before .before .before .before .before .before .simplify-once .ensures) (c .before .before .r .given .1) (c .if1 .left) (search needs) (search needs)
 
 same-length-5 : tie.Need-same-length-5 Inv-loop μ-loop
 same-length-5 c = search needs
@@ -70,10 +77,11 @@ more-passes-spec =
     loop-holds
     simplify-once-requires
     enum-known-r
+    enum-told
+    refusal-requires
     same-length
     same-length-2
     returns
-    enum-known-r-2
     sub-left
     add-count
     same-length-3

@@ -1,4 +1,8 @@
 -- The first pass, and then those after it.
+use mathlib.Core.Path.{refl}
+use Rattle.types.proofs.Refusals.{told-on}
+use Rattle.node_store.specs.Intern.{interned-out}
+use Rattle.node_store.specs.declared.added.Interned.the-variants as interned
 use Rattle.simplify.proofs.Sequences.{first-refused, first-room, first-done}
 use borrow.Author.Needs.{needs}
 use Rattle.simplify.proofs.simplify_in.Statement.{statement}
@@ -10,8 +14,11 @@ simplify-once-requires c κs = search needs
 enum-known-r : tie.Need-enum-known-r
 enum-known-r c = search needs
 
-enum-known-r-2 : tie.Need-enum-known-r-2
-enum-known-r-2 c = search needs
+enum-told : tie.Need-enum-told
+enum-told c = search needs
+
+refusal-requires : tie.Need-refusal-requires
+refusal-requires c κs = search needs
 
 same-length : tie.Need-same-length
 same-length c = search needs
@@ -20,7 +27,10 @@ same-length-2 : tie.Need-same-length-2
 same-length-2 c = search needs
 
 returns : tie.Need-returns
-returns c = search first-refused
+returns c = first-refused (c .before .before .before .before .before .before .before .before .before .before .before .before .pre) (c .before .before .before .before .before .before .before .simplify-once .ensures) (told-on interned.Refused interned-out (λ e. refl) (c .before .enum-told .given .1) (c .refusal .ensures))
+
+more-passes-requires : tie.Need-more-passes-requires
+more-passes-requires c κs = search first-room
 
 same-length-3 : tie.Need-same-length-3
 same-length-3 c = search needs
@@ -29,10 +39,7 @@ same-length-4 : tie.Need-same-length-4
 same-length-4 c = search needs
 
 returns-2 : tie.Need-returns-2
-returns-2 c = search first-done
-
-more-passes-requires : tie.Need-more-passes-requires
-more-passes-requires c κs = search first-room
+returns-2 c = first-done (c .before .before .before .before .before .before .before .before .before .before .before .before .before .before .before .before .before .before .before .pre) (c .before .before .before .before .before .before .before .before .before .before .before .before .before .before .simplify-once .ensures) (c .before .before .before .before .before .before .before .before .r .given .1) (c .before .before .before .before .more-passes .ensures) (search needs) (search needs)
 
 pub simplify-in-spec : {M : Type 1} → statement M
 simplify-in-spec =
@@ -40,11 +47,12 @@ simplify-in-spec =
     (tie.spec
     simplify-once-requires
     enum-known-r
-    enum-known-r-2
-    more-passes-requires
+    enum-told
+    refusal-requires
     same-length
     same-length-2
     returns
+    more-passes-requires
     same-length-3
     same-length-4
     returns-2)

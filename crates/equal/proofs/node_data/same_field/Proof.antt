@@ -38,13 +38,13 @@ enum-told-3 : tie.Need-enum-told-3
 enum-told-3 c = search needs
 
 returns-2 : tie.Need-returns-2
-returns-2 c = search names-less
+returns-2 c = names-less _ _ _ _ (c .before .before .before .before .before .before .before .before .before .field-optional .ensures) (c .before .before .before .before .before .before .before .before .field-optional2 .ensures) (search needs) (c .before .before .before .before .before .before .field-name .ensures) (c .before .before .before .before .field-name2 .ensures) (c .before .before .before .before .before .name-at .ensures) (c .before .before .before .name-at2 .ensures) (c .before .before .compare .ensures) (search needs)
 
 returns-3 : tie.Need-returns-3
-returns-3 c = search names-same
+returns-3 c = names-same _ _ _ _ (c .before .before .before .before .before .before .before .before .before .field-optional .ensures) (c .before .before .before .before .before .before .before .before .field-optional2 .ensures) (search needs) (c .before .before .before .before .before .before .field-name .ensures) (c .before .before .before .before .field-name2 .ensures) (c .before .before .before .before .before .name-at .ensures) (c .before .before .before .name-at2 .ensures) (c .before .before .compare .ensures) (search needs)
 
 returns-4 : tie.Need-returns-4
-returns-4 c = search names-greater
+returns-4 c = names-greater _ _ _ _ (c .before .before .before .before .before .before .before .before .before .field-optional .ensures) (c .before .before .before .before .before .before .before .before .field-optional2 .ensures) (search needs) (c .before .before .before .before .before .before .field-name .ensures) (c .before .before .before .before .field-name2 .ensures) (c .before .before .before .before .before .name-at .ensures) (c .before .before .before .name-at2 .ensures) (c .before .before .compare .ensures) (search needs)
 
 pub same-field-spec : {M : Type 1} → statement M
 same-field-spec =

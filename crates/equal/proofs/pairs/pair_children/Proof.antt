@@ -1,27 +1,43 @@
 -- The invariant: i children have the one beside them as their partner, and nothing else is new.
 use Prim.Native.Nat.{_-_}
-use Rattle.equal.proofs.Pairing.{Giving, giving-start, giving-left, giving-right, giving-fit, giving-clash, giving-more, giving-done}
+use lib.ListN.{length}
+use Rattle.equal.proofs.Pairing.{Giving, giving-start, giving-right, giving-fit, giving-clash, giving-more, giving-done}
 use borrow.Author.Needs.{needs}
 use Rattle.equal.proofs.pairs.pair_children.Statement.{statement}
 use Rattle.equal.proofs.pairs.pair_children.Tie as tie
 
 abbrev Inv-loop : tie.InvT-loop
-Inv-loop a b partners₀ count i₀ partners i = Giving a b partners₀ partners count i
+Inv-loop a b partners₀ left right i₀ partners i = Giving a b left right partners₀ partners i
 
 abbrev μ-loop : tie.MeasureT-loop
-μ-loop a b partners₀ count i₀ partners i = count - i
+μ-loop a b partners₀ left right i₀ partners i = length left - i
 
-child-count-requires : tie.Need-child-count-requires Inv-loop μ-loop
-child-count-requires c κs = search needs
+child-words-requires : tie.Need-child-words-requires Inv-loop μ-loop
+child-words-requires c κs = search needs
+
+child-words-requires-2 : tie.Need-child-words-requires-2 Inv-loop μ-loop
+child-words-requires-2 c κs = search needs
 
 loop-holds : tie.Need-loop-holds Inv-loop μ-loop
 loop-holds c = search giving-start
 
-child-at-requires : tie.Need-child-at-requires Inv-loop μ-loop
-child-at-requires c κs = search giving-left
+mul-child : tie.Need-mul-child Inv-loop μ-loop
+mul-child c = search needs
 
-child-at-requires-2 : tie.Need-child-at-requires-2 Inv-loop μ-loop
-child-at-requires-2 c κs = search giving-right
+shared-slice-read-child : tie.Need-shared-slice-read-child Inv-loop μ-loop
+shared-slice-read-child c = search needs
+
+child-requires : tie.Need-child-requires Inv-loop μ-loop
+child-requires c κs = search needs
+
+mul-child-2 : tie.Need-mul-child-2 Inv-loop μ-loop
+mul-child-2 c = search needs
+
+shared-slice-read-child-2 : tie.Need-shared-slice-read-child-2 Inv-loop μ-loop
+shared-slice-read-child-2 c = search giving-right
+
+child-requires-2 : tie.Need-child-requires-2 Inv-loop μ-loop
+child-requires-2 c κs = search needs
 
 pair-requires : tie.Need-pair-requires Inv-loop μ-loop
 pair-requires c κs = search giving-fit
@@ -47,10 +63,15 @@ pair-children-spec =
     (tie.spec
     Inv-loop
     μ-loop
-    child-count-requires
+    child-words-requires
+    child-words-requires-2
     loop-holds
-    child-at-requires
-    child-at-requires-2
+    mul-child
+    shared-slice-read-child
+    child-requires
+    mul-child-2
+    shared-slice-read-child-2
+    child-requires-2
     pair-requires
     returns
     add-i

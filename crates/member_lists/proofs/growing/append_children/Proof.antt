@@ -1,25 +1,31 @@
 -- The invariant: i children are appended.
 use Prim.Native.Nat.{_-_}
-use Rattle.types.specs.Fault.{children-in}
-use Rattle.member_lists.proofs.Copying.{Appended, appended-start, appended-in, appended-room, appended-full, appended-more, appended-done}
+use lib.ListN.{length}
+use Rattle.member_lists.proofs.Copying.{Appended, appended-start, appended-room, appended-full, appended-more, appended-done}
 use borrow.Author.Needs.{needs}
 use Rattle.member_lists.proofs.growing.append_children.Statement.{statement}
 use Rattle.member_lists.proofs.growing.append_children.Tie as tie
 
 abbrev Inv-loop : tie.InvT-loop
-Inv-loop node items₀ count total held₀ i₀ items held i = Appended (children-in node) total items₀ count items held i
+Inv-loop node items₀ count body held₀ i₀ items held i = Appended node body items₀ count items held i
 
 abbrev μ-loop : tie.MeasureT-loop
-μ-loop node items₀ count total held₀ i₀ items held i = total - i
+μ-loop node items₀ count body held₀ i₀ items held i = length body - i
 
-child-count-requires : tie.Need-child-count-requires Inv-loop μ-loop
-child-count-requires c κs = search needs
+child-words-requires : tie.Need-child-words-requires Inv-loop μ-loop
+child-words-requires c κs = search needs
 
 loop-holds : tie.Need-loop-holds Inv-loop μ-loop
 loop-holds c = search appended-start
 
-child-at-requires : tie.Need-child-at-requires Inv-loop μ-loop
-child-at-requires c κs = search appended-in
+mul-child : tie.Need-mul-child Inv-loop μ-loop
+mul-child c = search needs
+
+shared-slice-read-child : tie.Need-shared-slice-read-child Inv-loop μ-loop
+shared-slice-read-child c = search needs
+
+child-requires : tie.Need-child-requires Inv-loop μ-loop
+child-requires c κs = search needs
 
 append-requires : tie.Need-append-requires Inv-loop μ-loop
 append-requires c κs = search appended-room
@@ -51,9 +57,11 @@ append-children-spec =
     (tie.spec
     Inv-loop
     μ-loop
-    child-count-requires
+    child-words-requires
     loop-holds
-    child-at-requires
+    mul-child
+    shared-slice-read-child
+    child-requires
     append-requires
     enum-known-grown
     enum-told

@@ -7,8 +7,14 @@ use Rattle.node_reading.proofs.nodes.first_child.Tie as tie
 node-at-requires : tie.Need-node-at-requires
 node-at-requires c κs = search parent-here
 
-child-at-requires : tie.Need-child-at-requires
-child-at-requires c κs = search child-there
+child-words-requires : tie.Need-child-words-requires
+child-words-requires c κs = search needs
+
+shared-slice-read-child : tie.Need-shared-slice-read-child
+shared-slice-read-child c = search child-there
+
+child-requires : tie.Need-child-requires
+child-requires c κs = search needs
 
 wide-requires : tie.Need-wide-requires
 wide-requires c κs = search needs
@@ -17,4 +23,12 @@ returns : tie.Need-returns
 returns c = search child-read
 
 pub first-child-spec : {M : Type 1} → statement M
-first-child-spec = tie.close (tie.spec node-at-requires child-at-requires wide-requires returns)
+first-child-spec =
+    tie.close
+    (tie.spec
+    node-at-requires
+    child-words-requires
+    shared-slice-read-child
+    child-requires
+    wide-requires
+    returns)

@@ -1,6 +1,12 @@
 -- The cycle: the measure is four times the node's number, and then which half.
 use Prim.Native.Nat.{ℕ, _+_, _-_, _*_, _<_}
+use mathlib.Core.Path.{refl}
 use borrow.Author.Needs.{needs}
+use Rattle.types.proofs.Refusals.{told-on}
+use Rattle.node_store.specs.Intern.{interned-out}
+use Rattle.node_store.specs.declared.added.Interned.the-variants as interned
+use Rattle.recursion.specs.Inner.Work.{run-out}
+use Rattle.recursion.specs.declared.Run.the-variants as run
 use Rattle.pass.proofs.Remembering.{ready-small, same-falls, cached-done, remember-room, remembered}
 use Rattle.pass.proofs.Turns.{Turn, turn-start, turn-item, turn-falls, turn-ready, turn-refused, turn-more, turn-done}
 use Rattle.pass.proofs.Others.{ready-range, ready-wide, list-ready, list-falls, each-falls, children-ready, other-refused, rebuilding, other-done}
@@ -20,7 +26,7 @@ use Rattle.pass.proofs.apply.apply_simplification_uncached.Reads as app
 use Rattle.pass.proofs.apply.apply_simplification_uncached.Kinds as apply-simplification-uncached-kinds
 use Rattle.pass.proofs.apply.+apply_each+apply_list+apply_simplification+apply_simplification_uncached.Lts-apply_simplification_uncached as apply-simplification-uncached-lts
 use Rattle.pass.proofs.apply.first_member.Reads as first-member-reads
-use Rattle.pass.proofs.apply.item_at.Reads as item-at-reads
+use Rattle.recursion.proofs.item_at.Reads as item-at-reads
 use Rattle.pass.proofs.cache.cached.Reads as cached-reads
 use Rattle.pass.proofs.cache.remember.Reads as remember-reads
 use Rattle.rebuilding.proofs.children.all_children.Reads as all-children-reads
@@ -35,6 +41,8 @@ use Rattle.pass.proofs.apply.+apply_each+apply_list+apply_simplificatio
 use Rattle.pass.proofs.apply.+apply_each+apply_list+apply_simplification+apply_simplification_uncached.Tie.{
   close,
 }
+use Rattle.node_store.proofs.added.Interned.refusal.Reads as added-Interned-refusal-reads
+use Rattle.recursion.proofs.Run.refusal.Reads as Run-refusal-reads
 
 abbrev μ-apply-each : Measures 6 apply-each-kinds.ps ℕ
 μ-apply-each κs a = 4 * (a .1 .1 .1 .0)
@@ -97,16 +105,16 @@ apply-simplification-uncached-below t =
     apply-simplification-uncached.Pre
 
 abbrev apply-each-claims : ℕ → apply-each-lts.Claims
-apply-each-claims t = (item-at-reads.Asked, item-at-reads.Learnt, apply-simplification-below t, apply-simplification.Post)
+apply-each-claims t = (item-at-reads.Asked, item-at-reads.Learnt, apply-simplification-below t, apply-simplification.Post, added-Interned-refusal-reads.Asked, added-Interned-refusal-reads.Learnt)
 
 abbrev apply-list-claims : ℕ → apply-list-lts.Claims
-apply-list-claims t = (first-member-reads.Asked, first-member-reads.Learnt, remaining-reads.Asked, remaining-reads.Learnt, apply-each-below t, apply-each.Post, close-list-reads.Asked, close-list-reads.Learnt, apply-simplification-below t, apply-simplification.Post)
+apply-list-claims t = (first-member-reads.Asked, first-member-reads.Learnt, remaining-reads.Asked, remaining-reads.Learnt, apply-each-below t, apply-each.Post, Run-refusal-reads.Asked, Run-refusal-reads.Learnt, close-list-reads.Asked, close-list-reads.Learnt, apply-simplification-below t, apply-simplification.Post)
 
 abbrev apply-simplification-claims : ℕ → apply-simplification-lts.Claims
 apply-simplification-claims t = (cached-reads.Asked, cached-reads.Learnt, apply-simplification-uncached-below t, apply-simplification-uncached.Post, remember-reads.Asked, remember-reads.Learnt)
 
 abbrev apply-simplification-uncached-claims : ℕ → apply-simplification-uncached-lts.Claims
-apply-simplification-uncached-claims t = (wide-reads.Asked, wide-reads.Learnt, kind-at-reads.Asked, kind-at-reads.Learnt, apply-list-below t, apply-list.Post, all-children-reads.Asked, all-children-reads.Learnt, apply-each-below t, apply-each.Post, rebuild-reads.Asked, rebuild-reads.Learnt)
+apply-simplification-uncached-claims t = (wide-reads.Asked, wide-reads.Learnt, kind-at-reads.Asked, kind-at-reads.Learnt, apply-list-below t, apply-list.Post, all-children-reads.Asked, all-children-reads.Learnt, apply-each-below t, apply-each.Post, Run-refusal-reads.Asked, Run-refusal-reads.Learnt, rebuild-reads.Asked, rebuild-reads.Learnt)
 
 abbrev apply-each-Inv-loop : apply-each-lts.InvT-loop
 apply-each-Inv-loop words₀ starts₀ n items₀ count removable keep dropped₀ kept₀ last₀ i₀ words starts items dropped kept last i = Turn words₀ starts₀ last₀ n items₀ count removable keep dropped₀ kept₀ words starts items dropped kept last i
@@ -127,6 +135,12 @@ apply-each-apply-simplification-requires t c κs = (search turn-falls, search tu
 apply-each-enum-known-r : (t : ℕ) → apply-each-lts.Need-enum-known-r (apply-each-claims t) (apply-each-at t) apply-each.Post apply-each-Inv-loop apply-each-μ-loop
 apply-each-enum-known-r t c = search needs
 
+apply-each-enum-told : (t : ℕ) → apply-each-lts.Need-enum-told (apply-each-claims t) (apply-each-at t) apply-each.Post apply-each-Inv-loop apply-each-μ-loop
+apply-each-enum-told t c = search needs
+
+apply-each-refusal-requires : (t : ℕ) → apply-each-lts.Need-refusal-requires (apply-each-claims t) (apply-each-at t) apply-each.Post apply-each-Inv-loop apply-each-μ-loop
+apply-each-refusal-requires t c κs = search needs
+
 apply-each-same-length : (t : ℕ) → apply-each-lts.Need-same-length (apply-each-claims t) (apply-each-at t) apply-each.Post apply-each-Inv-loop apply-each-μ-loop
 apply-each-same-length t c = search needs
 
@@ -134,10 +148,7 @@ apply-each-same-length-2 : (t : ℕ) → apply-each-lts.Need-same-length-2 (appl
 apply-each-same-length-2 t c = search needs
 
 apply-each-returns : (t : ℕ) → apply-each-lts.Need-returns (apply-each-claims t) (apply-each-at t) apply-each.Post apply-each-Inv-loop apply-each-μ-loop
-apply-each-returns t c = search (turn-refused (c .before .before .before .before .before .before .before .before .before .before .before .before .before .before .before .loop .inv) (c .before .before .before .before .before .before .before .before .before .before .before .before .before .before .loop-test .taken) (c .before .before .before .before .before .before .before .before .before .before .before .before .item-at .ensures) (c .before .before .before .before .before .before .before .apply-simplification .ensures))
-
-apply-each-enum-known-r-2 : (t : ℕ) → apply-each-lts.Need-enum-known-r-2 (apply-each-claims t) (apply-each-at t) apply-each.Post apply-each-Inv-loop apply-each-μ-loop
-apply-each-enum-known-r-2 t c = search needs
+apply-each-returns t c = turn-refused (c .before .before .before .before .before .before .before .before .before .before .before .before .before .before .before .loop .inv) (c .before .before .before .before .before .before .before .before .before .before .before .before .before .before .loop-test .taken) (c .before .before .before .before .before .before .before .before .before .before .before .before .item-at .ensures) (c .before .before .before .before .before .before .before .apply-simplification .ensures) (told-on interned.Refused interned-out (λ e. refl) (c .before .enum-told .given .1) (c .refusal .ensures))
 
 apply-each-mul-items : (t : ℕ) → apply-each-lts.Need-mul-items (apply-each-claims t) (apply-each-at t) apply-each.Post apply-each-Inv-loop apply-each-μ-loop
 apply-each-mul-items t c = search needs
@@ -152,7 +163,7 @@ apply-each-loop-less : (t : ℕ) → apply-each-lts.Need-loop-less (apply-each-c
 apply-each-loop-less t c = search needs
 
 apply-each-loop-again : (t : ℕ) → apply-each-lts.Need-loop-again (apply-each-claims t) (apply-each-at t) apply-each.Post apply-each-Inv-loop apply-each-μ-loop
-apply-each-loop-again t c = search (turn-more (c .before .before .before .before .before .before .before .before .before .before .before .before .before .before .before .loop .inv) (c .before .before .before .before .before .before .before .before .before .before .before .before .before .before .loop-test .taken) (c .before .before .before .before .before .before .before .before .before .before .before .before .item-at .ensures) (c .before .before .before .before .before .before .before .apply-simplification .ensures))
+apply-each-loop-again t c = turn-more (c .before .before .before .before .before .before .before .before .before .before .before .before .before .before .before .loop .inv) (c .before .before .before .before .before .before .before .before .before .before .before .before .before .before .loop-test .taken) (c .before .before .before .before .before .before .before .before .before .before .before .before .item-at .ensures) (c .before .before .before .before .before .before .before .apply-simplification .ensures) (c .before .r .given .1) (search needs) (search needs)
 
 apply-each-same-length-3 : (t : ℕ) → apply-each-lts.Need-same-length-3 (apply-each-claims t) (apply-each-at t) apply-each.Post apply-each-Inv-loop apply-each-μ-loop
 apply-each-same-length-3 t c = search needs
@@ -175,14 +186,11 @@ apply-list-apply-each-requires t c κs = (search members-fall, search (members-r
 apply-list-enum-known-r : (t : ℕ) → apply-list-lts.Need-enum-known-r (apply-list-claims t) (apply-list-at t) apply-list.Post
 apply-list-enum-known-r t c = search needs
 
-apply-list-enum-known-r-2 : (t : ℕ) → apply-list-lts.Need-enum-known-r-2 (apply-list-claims t) (apply-list-at t) apply-list.Post
-apply-list-enum-known-r-2 t c = search needs
-
-apply-list-enum-known-closed : (t : ℕ) → apply-list-lts.Need-enum-known-closed (apply-list-claims t) (apply-list-at t) apply-list.Post
-apply-list-enum-known-closed t c = search needs
-
 apply-list-enum-told : (t : ℕ) → apply-list-lts.Need-enum-told (apply-list-claims t) (apply-list-at t) apply-list.Post
 apply-list-enum-told t c = search needs
+
+apply-list-refusal-requires : (t : ℕ) → apply-list-lts.Need-refusal-requires (apply-list-claims t) (apply-list-at t) apply-list.Post
+apply-list-refusal-requires t c κs = search needs
 
 apply-list-same-length : (t : ℕ) → apply-list-lts.Need-same-length (apply-list-claims t) (apply-list-at t) apply-list.Post
 apply-list-same-length t c = search needs
@@ -191,7 +199,20 @@ apply-list-same-length-2 : (t : ℕ) → apply-list-lts.Need-same-length-2 (appl
 apply-list-same-length-2 t c = search needs
 
 apply-list-returns : (t : ℕ) → apply-list-lts.Need-returns (apply-list-claims t) (apply-list-at t) apply-list.Post
-apply-list-returns t c = search (list-refused (c .before .before .before .before .before .before .before .before .before .before .before .before .before .before .before .before .before .before .before .before .before .pre .1) (c .before .before .before .before .before .before .before .before .before .before .before .before .before .remaining .ensures) (c .before .before .before .before .before .before .before .apply-each .ensures))
+apply-list-returns t c = list-refused (c .before .before .before .before .before .before .before .before .before .before .before .before .before .before .before .before .before .before .before .before .before .pre .1) (c .before .before .before .before .before .before .before .before .before .before .before .before .before .remaining .ensures) (c .before .before .before .before .before .before .before .apply-each .ensures) (told-on run.Refused run-out (λ e. refl) (c .before .enum-told .given .1) (c .refusal .ensures))
+
+apply-list-close-list-requires : (t : ℕ) → apply-list-lts.Need-close-list-requires (apply-list-claims t) (apply-list-at t) apply-list.Post
+apply-list-close-list-requires t c κs = closing-ready (c .before .before .before .before .before .before .before .before .before .before .before .before .before .before .before .before .before .before .before .before .before .before .before .before .before .pre .1) (c .before .before .before .before .before .before .before .before .before .before .before .before .before .before .before .before .before .remaining .ensures) (c .before .before .before .before .before .before .before .before .before .before .before .apply-each .ensures) (c .before .before .before .before .before .r .given .1)
+
+apply-list-enum-known-closed : (t : ℕ) → apply-list-lts.Need-enum-known-closed (apply-list-claims t) (apply-list-at t) apply-list.Post
+apply-list-enum-known-closed t c = search needs
+
+apply-list-enum-told-2 : (t : ℕ) → apply-list-lts.Need-enum-told-2 (apply-list-claims t) (apply-list-at t) apply-list.Post
+apply-list-enum-told-2 t c = search needs
+
+apply-list-apply-simplification-requires :
+    (t : ℕ) → apply-list-lts.Need-apply-simplification-requires (apply-list-claims t) (apply-list-at t) apply-list.Post
+apply-list-apply-simplification-requires t c κs = (first-falls (c .before .before .before .before .before .before .before .before .before .before .before .before .before .before .before .before .before .before .before .before .before .before .before .before .before .before .before .before .before .before .before .before .before .before .before .before .pre .1) (c .before .before .before .before .before .before .before .before .before .before .before .before .before .before .before .before .before .before .before .before .before .before .before .before .before .before .before .before .remaining .ensures) (c .before .before .before .before .before .before .before .before .before .before .before .before .before .before .before .before .before .before .before .before .before .before .apply-each .ensures) (c .before .before .before .before .before .before .before .before .before .before .before .before .before .before .before .before .r .given .1) (c .before .before .before .before .before .before .before .before .before .before .close-list .ensures) (c .before .before .before .before .before .before .before .before .before .before .before .before .before .before .before .before .before .before .before .before .before .before .before .before .before .before .before .before .before .before .before .first-member .ensures) (c .before .before .before .before .enum-told2 .given .1) (c .before .before .before .before .before .before .before .before .before .before .before .before .before .before .before .before .before .before .before .before .before .before .before .before .before .before .before .before .before .before .before .before .before .before .before .before .pre .0), first-ready (c .before .before .before .before .before .before .before .before .before .before .before .before .before .before .before .before .before .before .before .before .before .before .before .before .before .before .before .before .before .before .before .before .before .before .before .before .pre .1) (c .before .before .before .before .before .before .before .before .before .before .before .before .before .before .before .before .before .before .before .before .before .before .before .before .before .before .before .before .remaining .ensures) (c .before .before .before .before .before .before .before .before .before .before .before .before .before .before .before .before .before .before .before .before .before .before .apply-each .ensures) (c .before .before .before .before .before .before .before .before .before .before .before .before .before .before .before .before .r .given .1) (c .before .before .before .before .before .before .before .before .before .before .close-list .ensures) (c .before .before .before .before .before .before .before .before .before .before .before .before .before .before .before .before .before .before .before .before .before .before .before .before .before .before .before .before .before .before .before .first-member .ensures) (c .before .before .before .before .enum-told2 .given .1))
 
 apply-list-same-length-3 : (t : ℕ) → apply-list-lts.Need-same-length-3 (apply-list-claims t) (apply-list-at t) apply-list.Post
 apply-list-same-length-3 t c = search needs
@@ -200,7 +221,7 @@ apply-list-same-length-4 : (t : ℕ) → apply-list-lts.Need-same-length-4 (appl
 apply-list-same-length-4 t c = search needs
 
 apply-list-returns-2 : (t : ℕ) → apply-list-lts.Need-returns-2 (apply-list-claims t) (apply-list-at t) apply-list.Post
-apply-list-returns-2 t c = search (list-done (c .before .before .before .before .before .before .before .before .before .before .before .before .before .before .before .before .before .before .before .before .before .before .before .before .before .before .before .before .before .before .before .before .before .pre .1) (c .before .before .before .before .before .before .before .before .before .before .before .before .before .before .before .before .before .before .before .before .before .before .before .before .before .remaining .ensures) (c .before .before .before .before .before .before .before .before .before .before .before .before .before .before .before .before .before .before .before .apply-each .ensures) (c .before .before .before .before .before .before .before .before .before .before .before .before .before .r2 .given .1) (c .before .before .before .before .before .before .before .close-list .ensures))
+apply-list-returns-2 t c = list-emptied (c .before .before .before .before .before .before .before .before .before .before .before .before .before .before .before .before .before .before .before .before .before .before .before .before .before .before .before .before .before .before .before .before .before .before .before .before .before .before .before .before .before .pre .1) (c .before .before .before .before .before .before .before .before .before .before .before .before .before .before .before .before .before .before .before .before .before .before .before .before .before .before .before .before .before .before .before .before .before .remaining .ensures) (c .before .before .before .before .before .before .before .before .before .before .before .before .before .before .before .before .before .before .before .before .before .before .before .before .before .before .before .apply-each .ensures) (c .before .before .before .before .before .before .before .before .before .before .before .before .before .before .before .before .before .before .before .before .before .r .given .1) (c .before .before .before .before .before .before .before .before .before .before .before .before .before .before .before .close-list .ensures) (c .before .before .before .before .before .before .before .before .before .before .before .before .before .before .before .before .before .before .before .before .before .before .before .before .before .before .before .before .before .before .before .before .before .before .before .before .first-member .ensures) (c .before .before .before .before .before .before .before .before .before .enum-told2 .given .1) (c .before .before .before .before .apply-simplification .ensures) (c .before .before .before .before .before .before .before .before .before .before .before .before .before .before .before .before .before .before .before .before .before .before .before .before .before .before .before .apply-each .kept .0) (c .before .before .before .before .before .before .before .before .before .before .before .before .before .before .before .before .before .before .before .before .before .before .before .before .before .before .before .apply-each .kept .1 .0)
 
 apply-list-same-length-5 : (t : ℕ) → apply-list-lts.Need-same-length-5 (apply-list-claims t) (apply-list-at t) apply-list.Post
 apply-list-same-length-5 t c = search needs
@@ -209,14 +230,7 @@ apply-list-same-length-6 : (t : ℕ) → apply-list-lts.Need-same-length-6 (appl
 apply-list-same-length-6 t c = search needs
 
 apply-list-returns-3 : (t : ℕ) → apply-list-lts.Need-returns-3 (apply-list-claims t) (apply-list-at t) apply-list.Post
-apply-list-returns-3 t c = list-emptied (c .before .before .before .before .before .before .before .before .before .before .before .before .before .before .before .before .before .before .before .before .before .before .before .before .before .before .before .before .before .before .before .before .before .before .before .before .before .before .before .before .before .pre .1) (c .before .before .before .before .before .before .before .before .before .before .before .before .before .before .before .before .before .before .before .before .before .before .before .before .before .before .before .before .before .before .before .before .before .remaining .ensures) (c .before .before .before .before .before .before .before .before .before .before .before .before .before .before .before .before .before .before .before .before .before .before .before .before .before .before .before .apply-each .ensures) (c .before .before .before .before .before .before .before .before .before .before .before .before .before .before .before .before .before .before .before .before .before .r2 .given .1) (c .before .before .before .before .before .before .before .before .before .before .before .before .before .before .before .close-list .ensures) (c .before .before .before .before .before .before .before .before .before .before .before .before .before .before .before .before .before .before .before .before .before .before .before .before .before .before .before .before .before .before .before .before .before .before .before .before .first-member .ensures) (c .before .before .before .before .before .before .before .before .before .enum-told .given .1) (c .before .before .before .before .apply-simplification .ensures) (c .before .before .before .before .before .before .before .before .before .before .before .before .before .before .before .before .before .before .before .before .before .before .before .before .before .before .before .apply-each .kept .0) (c .before .before .before .before .before .before .before .before .before .before .before .before .before .before .before .before .before .before .before .before .before .before .before .before .before .before .before .apply-each .kept .1 .0)
-
-apply-list-close-list-requires : (t : ℕ) → apply-list-lts.Need-close-list-requires (apply-list-claims t) (apply-list-at t) apply-list.Post
-apply-list-close-list-requires t c κs = closing-ready (c .before .before .before .before .before .before .before .before .before .before .before .before .before .before .before .before .before .before .before .before .before .before .before .before .before .pre .1) (c .before .before .before .before .before .before .before .before .before .before .before .before .before .before .before .before .before .remaining .ensures) (c .before .before .before .before .before .before .before .before .before .before .before .apply-each .ensures) (c .before .before .before .before .before .r2 .given .1)
-
-apply-list-apply-simplification-requires :
-    (t : ℕ) → apply-list-lts.Need-apply-simplification-requires (apply-list-claims t) (apply-list-at t) apply-list.Post
-apply-list-apply-simplification-requires t c κs = (first-falls (c .before .before .before .before .before .before .before .before .before .before .before .before .before .before .before .before .before .before .before .before .before .before .before .before .before .before .before .before .before .before .before .before .before .before .before .before .pre .1) (c .before .before .before .before .before .before .before .before .before .before .before .before .before .before .before .before .before .before .before .before .before .before .before .before .before .before .before .before .remaining .ensures) (c .before .before .before .before .before .before .before .before .before .before .before .before .before .before .before .before .before .before .before .before .before .before .apply-each .ensures) (c .before .before .before .before .before .before .before .before .before .before .before .before .before .before .before .before .r2 .given .1) (c .before .before .before .before .before .before .before .before .before .before .close-list .ensures) (c .before .before .before .before .before .before .before .before .before .before .before .before .before .before .before .before .before .before .before .before .before .before .before .before .before .before .before .before .before .before .before .first-member .ensures) (c .before .before .before .before .enum-told .given .1) (c .before .before .before .before .before .before .before .before .before .before .before .before .before .before .before .before .before .before .before .before .before .before .before .before .before .before .before .before .before .before .before .before .before .before .before .before .pre .0), search (first-ready (c .before .before .before .before .before .before .before .before .before .before .before .before .before .before .before .before .before .before .before .before .before .before .before .before .before .before .before .before .before .before .before .before .before .before .before .before .pre .1) (c .before .before .before .before .before .before .before .before .before .before .before .before .before .before .before .before .before .before .before .before .before .before .before .before .before .before .before .before .remaining .ensures) (c .before .before .before .before .before .before .before .before .before .before .before .before .before .before .before .before .before .before .before .before .before .before .apply-each .ensures) (c .before .before .before .before .before .before .before .before .before .before .before .before .before .before .before .before .r2 .given .1) (c .before .before .before .before .before .before .before .before .before .before .close-list .ensures) (c .before .before .before .before .before .before .before .before .before .before .before .before .before .before .before .before .before .before .before .before .before .before .before .before .before .before .before .before .before .before .before .first-member .ensures) (c .before .before .before .before .enum-told .given .1)))
+apply-list-returns-3 t c = list-done (c .before .before .before .before .before .before .before .before .before .before .before .before .before .before .before .before .before .before .before .before .before .before .before .before .before .before .before .before .before .before .before .before .before .pre .1) (c .before .before .before .before .before .before .before .before .before .before .before .before .before .before .before .before .before .before .before .before .before .before .before .before .before .remaining .ensures) (c .before .before .before .before .before .before .before .before .before .before .before .before .before .before .before .before .before .before .before .apply-each .ensures) (c .before .before .before .before .before .before .before .before .before .before .before .before .before .r .given .1) (c .before .before .before .before .before .before .before .close-list .ensures) (c .before .closed .given .1) (search needs) (search needs) (search needs) (search needs)
 
 apply-simplification-cached-requires : (t : ℕ) → apply-simplification-lts.Need-cached-requires (apply-simplification-claims t) (apply-simplification-at t) apply-simplification.Post
 apply-simplification-cached-requires t c κs = search ready-small
@@ -293,13 +307,13 @@ apply-simplification-uncached-enum-known-r :
     (t : ℕ) → apply-simplification-uncached-lts.Need-enum-known-r (apply-simplification-uncached-claims t) (apply-simplification-uncached-at t) apply-simplification-uncached.Post
 apply-simplification-uncached-enum-known-r t c = search needs
 
-apply-simplification-uncached-rebuild-requires :
-    (t : ℕ) → apply-simplification-uncached-lts.Need-rebuild-requires (apply-simplification-uncached-claims t) (apply-simplification-uncached-at t) apply-simplification-uncached.Post
-apply-simplification-uncached-rebuild-requires t c κs = rebuilding (c .before .before .before .before .before .before .before .before .before .before .before .before .before .before .before .before .before .before .before .before .before .before .before .before .before .before .before .pre .1) (c .before .before .before .before .before .before .before .before .before .before .before .before .before .before .before .before .before .all-children .ensures) (c .before .before .before .before .before .before .before .before .before .before .before .apply-each .ensures) (c .before .before .before .before .before .r .given .1)
+apply-simplification-uncached-enum-told :
+    (t : ℕ) → apply-simplification-uncached-lts.Need-enum-told (apply-simplification-uncached-claims t) (apply-simplification-uncached-at t) apply-simplification-uncached.Post
+apply-simplification-uncached-enum-told t c = search needs
 
-apply-simplification-uncached-enum-known-r-2 :
-    (t : ℕ) → apply-simplification-uncached-lts.Need-enum-known-r-2 (apply-simplification-uncached-claims t) (apply-simplification-uncached-at t) apply-simplification-uncached.Post
-apply-simplification-uncached-enum-known-r-2 t c = search needs
+apply-simplification-uncached-refusal-requires :
+    (t : ℕ) → apply-simplification-uncached-lts.Need-refusal-requires (apply-simplification-uncached-claims t) (apply-simplification-uncached-at t) apply-simplification-uncached.Post
+apply-simplification-uncached-refusal-requires t c κs = search needs
 
 apply-simplification-uncached-same-length-3 :
     (t : ℕ) → apply-simplification-uncached-lts.Need-same-length-3 (apply-simplification-uncached-claims t) (apply-simplification-uncached-at t) apply-simplification-uncached.Post
@@ -311,7 +325,11 @@ apply-simplification-uncached-same-length-4 t c = search needs
 
 apply-simplification-uncached-returns-2 :
     (t : ℕ) → apply-simplification-uncached-lts.Need-returns-2 (apply-simplification-uncached-claims t) (apply-simplification-uncached-at t) apply-simplification-uncached.Post
-apply-simplification-uncached-returns-2 t c = search (other-done (c .before .before .before .before .before .before .before .before .before .before .before .before .before .before .before .before .before .before .before .before .before .before .before .before .before .before .before .before .before .before .before .before .pre .1) (c .before .before .before .before .before .before .before .before .before .before .before .before .before .before .before .before .before .before .before .before .before .before .all-children .ensures) (c .before .before .before .before .before .before .before .before .before .before .before .before .before .before .before .before .apply-each .ensures) (c .before .before .before .before .before .before .before .before .before .before .r .given .1) (c .before .before .before .before .rebuild .ensures) (c .before .before .before .before .before .before .before .before .before .before .before .before .before .before .before .before .before .before .before .before .before .before .before .before .before .before .before .wide .ensures) (c .before .before .before .before .before .before .before .before .before .before .before .before .before .before .before .before .before .before .before .before .before .before .before .before .before .before .kind-at .ensures))
+apply-simplification-uncached-returns-2 t c = other-refused (c .before .before .before .before .before .before .before .before .before .before .before .before .before .before .before .before .before .before .before .before .before .before .before .pre .1) (c .before .before .before .before .before .before .before .before .before .before .before .before .before .all-children .ensures) (c .before .before .before .before .before .before .before .apply-each .ensures) (c .before .before .before .before .before .before .before .before .before .before .before .before .before .before .before .before .before .before .wide .ensures) (c .before .before .before .before .before .before .before .before .before .before .before .before .before .before .before .before .before .kind-at .ensures) (search needs) (told-on run.Refused run-out (λ e. refl) (c .before .enum-told .given .1) (c .refusal .ensures))
+
+apply-simplification-uncached-rebuild-requires :
+    (t : ℕ) → apply-simplification-uncached-lts.Need-rebuild-requires (apply-simplification-uncached-claims t) (apply-simplification-uncached-at t) apply-simplification-uncached.Post
+apply-simplification-uncached-rebuild-requires t c κs = rebuilding (c .before .before .before .before .before .before .before .before .before .before .before .before .before .before .before .before .before .before .before .before .before .before .before .before .before .before .before .pre .1) (c .before .before .before .before .before .before .before .before .before .before .before .before .before .before .before .before .before .all-children .ensures) (c .before .before .before .before .before .before .before .before .before .before .before .apply-each .ensures) (c .before .before .before .before .before .r .given .1)
 
 apply-simplification-uncached-same-length-5 :
     (t : ℕ) → apply-simplification-uncached-lts.Need-same-length-5 (apply-simplification-uncached-claims t) (apply-simplification-uncached-at t) apply-simplification-uncached.Post
@@ -323,7 +341,7 @@ apply-simplification-uncached-same-length-6 t c = search needs
 
 apply-simplification-uncached-returns-3 :
     (t : ℕ) → apply-simplification-uncached-lts.Need-returns-3 (apply-simplification-uncached-claims t) (apply-simplification-uncached-at t) apply-simplification-uncached.Post
-apply-simplification-uncached-returns-3 t c = search other-refused
+apply-simplification-uncached-returns-3 t c = other-done (c .before .before .before .before .before .before .before .before .before .before .before .before .before .before .before .before .before .before .before .before .before .before .before .before .before .before .before .before .before .before .before .before .pre .1) (c .before .before .before .before .before .before .before .before .before .before .before .before .before .before .before .before .before .before .before .before .before .before .all-children .ensures) (c .before .before .before .before .before .before .before .before .before .before .before .before .before .before .before .before .apply-each .ensures) (c .before .before .before .before .before .before .before .before .before .before .r .given .1) (c .before .before .before .before .rebuild .ensures) (c .before .before .before .before .before .before .before .before .before .before .before .before .before .before .before .before .before .before .before .before .before .before .before .before .before .before .before .wide .ensures) (c .before .before .before .before .before .before .before .before .before .before .before .before .before .before .before .before .before .before .before .before .before .before .before .before .before .before .kind-at .ensures) (search needs) (search needs) (search needs) (search needs) (search needs)
 
 pub +apply-each+apply-list+apply-simplification+apply-simplification-uncached-spec :
     {M : Type 1} → statement M
@@ -342,10 +360,11 @@ pub +apply-each+apply-list+apply-simplification+apply-simplification-uncached-sp
     (apply-each-item-at-requires t)
     (apply-each-apply-simplification-requires t)
     (apply-each-enum-known-r t)
+    (apply-each-enum-told t)
+    (apply-each-refusal-requires t)
     (apply-each-same-length t)
     (apply-each-same-length-2 t)
     (apply-each-returns t)
-    (apply-each-enum-known-r-2 t)
     (apply-each-mul-items t)
     (apply-each-element-write-items t)
     (apply-each-add-i t)
@@ -361,14 +380,15 @@ pub +apply-each+apply-list+apply-simplification+apply-simplification-uncached-sp
     (apply-list-remaining-requires t)
     (apply-list-apply-each-requires t)
     (apply-list-enum-known-r t)
-    (apply-list-enum-known-r-2 t)
-    (apply-list-close-list-requires t)
-    (apply-list-enum-known-closed t)
     (apply-list-enum-told t)
-    (apply-list-apply-simplification-requires t)
+    (apply-list-refusal-requires t)
     (apply-list-same-length t)
     (apply-list-same-length-2 t)
     (apply-list-returns t)
+    (apply-list-close-list-requires t)
+    (apply-list-enum-known-closed t)
+    (apply-list-enum-told-2 t)
+    (apply-list-apply-simplification-requires t)
     (apply-list-same-length-3 t)
     (apply-list-same-length-4 t)
     (apply-list-returns-2 t)
@@ -403,11 +423,12 @@ pub +apply-each+apply-list+apply-simplification+apply-simplification-uncached-sp
     (apply-simplification-uncached-all-children-requires t)
     (apply-simplification-uncached-apply-each-requires t)
     (apply-simplification-uncached-enum-known-r t)
-    (apply-simplification-uncached-rebuild-requires t)
-    (apply-simplification-uncached-enum-known-r-2 t)
+    (apply-simplification-uncached-enum-told t)
+    (apply-simplification-uncached-refusal-requires t)
     (apply-simplification-uncached-same-length-3 t)
     (apply-simplification-uncached-same-length-4 t)
     (apply-simplification-uncached-returns-2 t)
+    (apply-simplification-uncached-rebuild-requires t)
     (apply-simplification-uncached-same-length-5 t)
     (apply-simplification-uncached-same-length-6 t)
     (apply-simplification-uncached-returns-3 t)

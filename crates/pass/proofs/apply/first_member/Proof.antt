@@ -10,11 +10,25 @@ wide-requires c κs = search needs
 node-at-requires : tie.Need-node-at-requires
 node-at-requires c κs = search needs
 
-child-at-requires : tie.Need-child-at-requires
-child-at-requires c κs = search member-there
+child-words-requires : tie.Need-child-words-requires
+child-words-requires c κs = search needs
+
+shared-slice-read-child : tie.Need-shared-slice-read-child
+shared-slice-read-child c = search member-there
+
+child-requires : tie.Need-child-requires
+child-requires c κs = search needs
 
 returns : tie.Need-returns
 returns c = search member-read
 
 pub first-member-spec : {M : Type 1} → statement M
-first-member-spec = tie.close (tie.spec wide-requires node-at-requires child-at-requires returns)
+first-member-spec =
+    tie.close
+    (tie.spec
+    wide-requires
+    node-at-requires
+    child-words-requires
+    shared-slice-read-child
+    child-requires
+    returns)

@@ -1,24 +1,28 @@
 -- The invariant: the children still to come decide.
 use Prim.Native.Nat.{_-_}
-use Rattle.questions.proofs.VarWalks.{Looking, looking-start, looking-in, looking-small, looking-found, looking-more, looking-done}
+use lib.ListN.{length}
+use Rattle.questions.proofs.VarWalks.{Looking, looking-start, looking-small, looking-found, looking-more, looking-done}
 use borrow.Author.Needs.{needs}
 use Rattle.questions.proofs.vars.some_child.Statement.{statement}
 use Rattle.questions.proofs.vars.some_child.Tie as tie
 
 abbrev Inv-loop : tie.InvT-loop
-Inv-loop node from met count i₀ i = Looking node met from count i
+Inv-loop body from met i₀ i = Looking body met from i
 
 abbrev μ-loop : tie.MeasureT-loop
-μ-loop node from met count i₀ i = count - i
-
-child-count-requires : tie.Need-child-count-requires Inv-loop μ-loop
-child-count-requires c κs = search needs
+μ-loop body from met i₀ i = length body - i
 
 loop-holds : tie.Need-loop-holds Inv-loop μ-loop
 loop-holds c = search looking-start
 
-child-at-requires : tie.Need-child-at-requires Inv-loop μ-loop
-child-at-requires c κs = search looking-in
+mul-child : tie.Need-mul-child Inv-loop μ-loop
+mul-child c = search needs
+
+shared-slice-read-child : tie.Need-shared-slice-read-child Inv-loop μ-loop
+shared-slice-read-child c = search needs
+
+child-requires : tie.Need-child-requires Inv-loop μ-loop
+child-requires c κs = search needs
 
 test-requires : tie.Need-test-requires Inv-loop μ-loop
 test-requires c κs = search looking-small
@@ -44,9 +48,10 @@ some-child-spec =
     (tie.spec
     Inv-loop
     μ-loop
-    child-count-requires
     loop-holds
-    child-at-requires
+    mul-child
+    shared-slice-read-child
+    child-requires
     test-requires
     returns
     add-i

@@ -10,6 +10,9 @@ kind-in-requires c κs = search needs
 returns : tie.Need-returns
 returns c = search is-variable
 
+child-words-requires : tie.Need-child-words-requires
+child-words-requires c κs = search needs
+
 some-child-requires : tie.Need-some-child-requires
 some-child-requires c κs = search needs
 
@@ -28,6 +31,7 @@ words-have-spec =
     (tie.spec
     kind-in-requires
     returns
+    child-words-requires
     some-child-requires
     returns-2
     some-child-requires-2

@@ -1,15 +1,16 @@
 -- The invariant: of i children, those that remain are listed.
 use Prim.Native.Nat.{_-_}
-use Rattle.rebuilding.proofs.Copying.{Copied, copied-start, copied-in, copied-here, copied-space, copied-more, copied-done}
+use lib.ListN.{length}
+use Rattle.rebuilding.proofs.Copying.{Copied, copied-start, copied-here, copied-space, copied-more, copied-done}
 use borrow.Author.Needs.{needs}
 use Rattle.rebuilding.proofs.children.remaining.Statement.{statement}
 use Rattle.rebuilding.proofs.children.remaining.Tie as tie
 
 abbrev Inv-loop : tie.InvT-loop
-Inv-loop words starts c n removable keep node all items₀ count₀ i₀ items count i = Copied words starts c n removable keep node all items count i
+Inv-loop words starts c n removable keep body items₀ count₀ i₀ items count i = Copied words starts c n removable keep body items count i
 
 abbrev μ-loop : tie.MeasureT-loop
-μ-loop words starts c n removable keep node all items₀ count₀ i₀ items count i = all - i
+μ-loop words starts c n removable keep body items₀ count₀ i₀ items count i = length body - i
 
 wide-requires : tie.Need-wide-requires Inv-loop μ-loop
 wide-requires c κs = search needs
@@ -17,14 +18,20 @@ wide-requires c κs = search needs
 node-at-requires : tie.Need-node-at-requires Inv-loop μ-loop
 node-at-requires c κs = search needs
 
-child-count-requires : tie.Need-child-count-requires Inv-loop μ-loop
-child-count-requires c κs = search needs
+child-words-requires : tie.Need-child-words-requires Inv-loop μ-loop
+child-words-requires c κs = search needs
 
 loop-holds : tie.Need-loop-holds Inv-loop μ-loop
 loop-holds c = search copied-start
 
-child-at-requires : tie.Need-child-at-requires Inv-loop μ-loop
-child-at-requires c κs = search copied-in
+mul-child : tie.Need-mul-child Inv-loop μ-loop
+mul-child c = search needs
+
+shared-slice-read-child : tie.Need-shared-slice-read-child Inv-loop μ-loop
+shared-slice-read-child c = search needs
+
+child-requires : tie.Need-child-requires Inv-loop μ-loop
+child-requires c κs = search needs
 
 is-dropped-requires : tie.Need-is-dropped-requires Inv-loop μ-loop
 is-dropped-requires c κs = search copied-here
@@ -52,9 +59,11 @@ remaining-spec =
     μ-loop
     wide-requires
     node-at-requires
-    child-count-requires
+    child-words-requires
     loop-holds
-    child-at-requires
+    mul-child
+    shared-slice-read-child
+    child-requires
     is-dropped-requires
     add-unless-requires
     add-i

@@ -1,5 +1,5 @@
 -- A node with its own children is there already; one with others has a child.
-use Rattle.rebuilding.proofs.Interning.{as-many, unchanged, some-item}
+use Rattle.rebuilding.proofs.Interning.{one-each, unchanged, some-item}
 use borrow.Author.Needs.{needs}
 use Rattle.rebuilding.proofs.node.rebuild.Statement.{statement}
 use Rattle.rebuilding.proofs.node.rebuild.Tie as tie
@@ -10,8 +10,11 @@ wide-requires c κs = search needs
 node-at-requires : tie.Need-node-at-requires
 node-at-requires c κs = search needs
 
+child-words-requires : tie.Need-child-words-requires
+child-words-requires c κs = search needs
+
 same-children-requires : tie.Need-same-children-requires
-same-children-requires c κs = search as-many
+same-children-requires c κs = search one-each
 
 same-length : tie.Need-same-length
 same-length c = search needs
@@ -40,6 +43,7 @@ rebuild-spec =
     (tie.spec
     wide-requires
     node-at-requires
+    child-words-requires
     same-children-requires
     same-length
     same-length-2

@@ -1,7 +1,8 @@
 -- The invariant: the children passed are the items.
 use Prim.Native.Nat.{_-_}
+use mathlib.Core.List.{map}
 use lib.ListN.{take}
-use Rattle.types.specs.Fault.{children-in}
+use Rattle.words.specs.Words.{child}
 use Rattle.node_store.proofs.Loops.{Agree}
 use Rattle.rebuilding.proofs.Exchanging.{same-start, same-in, same-item, same-more, same-fails, same-done}
 use borrow.Author.Needs.{needs}
@@ -9,16 +10,22 @@ use Rattle.rebuilding.proofs.node.same_children.Statement.{statement}
 use Rattle.rebuilding.proofs.node.same_children.Tie as tie
 
 abbrev Inv-loop : tie.InvT-loop
-Inv-loop node items count i₀ i = Agree (children-in node) (take count items) i
+Inv-loop body items count i₀ i = Agree (map child body) (take count items) i
 
 abbrev μ-loop : tie.MeasureT-loop
-μ-loop node items count i₀ i = count - i
+μ-loop body items count i₀ i = count - i
 
 loop-holds : tie.Need-loop-holds Inv-loop μ-loop
 loop-holds c = search same-start
 
-child-at-requires : tie.Need-child-at-requires Inv-loop μ-loop
-child-at-requires c κs = search same-in
+mul-child : tie.Need-mul-child Inv-loop μ-loop
+mul-child c = search (same-in, needs)
+
+shared-slice-read-child : tie.Need-shared-slice-read-child Inv-loop μ-loop
+shared-slice-read-child c = search same-in
+
+child-requires : tie.Need-child-requires Inv-loop μ-loop
+child-requires c κs = search needs
 
 mul-if1 : tie.Need-mul-if1 Inv-loop μ-loop
 mul-if1 c = search needs
@@ -48,7 +55,9 @@ same-children-spec =
     Inv-loop
     μ-loop
     loop-holds
-    child-at-requires
+    mul-child
+    shared-slice-read-child
+    child-requires
     mul-if1
     element-copy-out-if1
     returns

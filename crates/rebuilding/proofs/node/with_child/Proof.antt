@@ -1,6 +1,6 @@
 -- The child stands in the lowest bits, so that taking it off leaves the others.
 use Rattle.words.specs.Words.{child}
-use Rattle.rebuilding.specs.Rebuilt.{with-child}
+use Rattle.rebuilding.specs.Inner.Rebuilt.{with-child}
 use borrow.Author.Needs.{needs}
 use Rattle.rebuilding.proofs.node.with_child.Statement.{statement}
 use Rattle.rebuilding.proofs.node.with_child.Tie as tie

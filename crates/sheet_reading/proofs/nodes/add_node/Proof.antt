@@ -39,7 +39,7 @@ same-length-4 : tie.Need-same-length-4
 same-length-4 c = search needs
 
 returns-3 : tie.Need-returns-3
-returns-3 c = search add-old
+returns-3 c = add-old _ (c .before .before .before .before .before .before .before .before .before .before .before .before .before .before .fault .ensures) (search needs) (c .before .before .before .before .before .before .before .before .before .before .intern-node .ensures) (c .before .before .before .before .interned .given .1) (c .before .before .wide .ensures) (search needs)
 
 same-length-5 : tie.Need-same-length-5
 same-length-5 c = search needs
@@ -48,7 +48,7 @@ same-length-6 : tie.Need-same-length-6
 same-length-6 c = search needs
 
 returns-4 : tie.Need-returns-4
-returns-4 c = search add-new
+returns-4 c = add-new _ (c .before .before .before .before .before .before .before .before .before .before .before .before .before .before .fault .ensures) (search needs) (c .before .before .before .before .before .before .before .before .before .before .intern-node .ensures) (c .before .before .before .before .interned .given .1) (c .before .before .wide .ensures) (search needs)
 
 pub add-node-spec : {M : Type 1} → statement M
 add-node-spec =

@@ -1,6 +1,12 @@
 -- The words from the head on are copied from their own stretch, and the node with these words is added.
 use Rattle.sheet_reading.proofs.Storing.{node-refused, node-low, node-high, node-stretch, node-room, node-share, node-not-added, node-added}
+use mathlib.Core.Path.{refl}
 use borrow.Author.Needs.{needs}
+use Rattle.types.proofs.Refusals.{told-on}
+use Rattle.node_store.specs.Intern.{interned-out}
+use Rattle.node_store.specs.declared.added.Interned.the-variants as interned
+use Rattle.sheet_reading.specs.Inner.Steps.{place-out}
+use Rattle.sheet_reading.specs.declared.bytes.Place.the-variants as place
 use Rattle.sheet_reading.proofs.nodes.read_node.Statement.{statement}
 use Rattle.sheet_reading.proofs.nodes.read_node.Tie as tie
 
@@ -10,8 +16,14 @@ node-end-requires c κs = search needs
 enum-known-place : tie.Need-enum-known-place
 enum-known-place c = search needs
 
-enum-known-place-2 : tie.Need-enum-known-place-2
-enum-known-place-2 c = search needs
+enum-told : tie.Need-enum-told
+enum-told c = search needs
+
+refusal-requires : tie.Need-refusal-requires
+refusal-requires c κs = search needs
+
+returns : tie.Need-returns
+returns c = node-refused (c .before .before .before .node-end .ensures) (told-on place.Refused place-out (λ e. refl) (c .before .enum-told .given .1) (c .refusal .ensures))
 
 sub-copy-words : tie.Need-sub-copy-words
 sub-copy-words c = search node-low
@@ -37,11 +49,11 @@ add-node-requires c κs = search needs
 enum-known-interned : tie.Need-enum-known-interned
 enum-known-interned c = search needs
 
-enum-known-interned-2 : tie.Need-enum-known-interned-2
-enum-known-interned-2 c = search needs
+enum-told-2 : tie.Need-enum-told-2
+enum-told-2 c = search needs
 
-returns : tie.Need-returns
-returns c = search node-refused
+refusal-requires-2 : tie.Need-refusal-requires-2
+refusal-requires-2 c κs = search needs
 
 same-length : tie.Need-same-length
 same-length c = search needs
@@ -50,7 +62,7 @@ same-length-2 : tie.Need-same-length-2
 same-length-2 c = search needs
 
 returns-2 : tie.Need-returns-2
-returns-2 c = search node-not-added
+returns-2 c = node-not-added (c .before .before .before .before .before .before .before .before .before .before .before .before .before .before .before .before .before .node-end .ensures) (c .before .before .before .before .before .before .before .before .before .before .before .before .before .before .before .place .given .1) (c .before .before .before .before .before .before .before .before .before .before .before .copy-words .ensures) (c .before .before .before .before .before .before .before .add-node .ensures) (told-on interned.Refused interned-out (λ e. refl) (c .before .enum-told2 .given .1) (c .refusal2 .ensures))
 
 same-length-3 : tie.Need-same-length-3
 same-length-3 c = search needs
@@ -59,7 +71,7 @@ same-length-4 : tie.Need-same-length-4
 same-length-4 c = search needs
 
 returns-3 : tie.Need-returns-3
-returns-3 c = search node-added
+returns-3 c = node-added (c .before .before .before .before .before .before .before .before .before .before .before .before .before .before .before .before .before .node-end .ensures) (c .before .before .before .before .before .before .before .before .before .before .before .before .before .before .before .place .given .1) (c .before .before .before .before .before .before .before .before .before .before .before .copy-words .ensures) (c .before .before .before .before .before .before .before .add-node .ensures) (c .before .interned .given .1)
 
 pub read-node-spec : {M : Type 1} → statement M
 read-node-spec =
@@ -67,7 +79,9 @@ read-node-spec =
     (tie.spec
     node-end-requires
     enum-known-place
-    enum-known-place-2
+    enum-told
+    refusal-requires
+    returns
     sub-copy-words
     part-copy-words-start
     part-copy-words-end
@@ -76,8 +90,8 @@ read-node-spec =
     slice-aggregate-add-node
     add-node-requires
     enum-known-interned
-    enum-known-interned-2
-    returns
+    enum-told-2
+    refusal-requires-2
     same-length
     same-length-2
     returns-2

@@ -10,11 +10,11 @@ kind-in-requires c κs = search needs
 returns : tie.Need-returns
 returns c = search shown-none
 
-child-count-requires : tie.Need-child-count-requires
-child-count-requires c κs = search needs
+child-words-requires : tie.Need-child-words-requires
+child-words-requires c κs = search needs
 
 returns-2 : tie.Need-returns-2
 returns-2 c = search shown-all
 
 pub shown-count-spec : {M : Type 1} → statement M
-shown-count-spec = tie.close (tie.spec kind-in-requires returns child-count-requires returns-2)
+shown-count-spec = tie.close (tie.spec kind-in-requires returns child-words-requires returns-2)

@@ -2,13 +2,22 @@
 use Rattle.types.specs.Kind as kinds
 use Rattle.types.specs.Node.{tag-of}
 use Rattle.text_writing.specs.Text.{beginning}
-use Rattle.text_writing.proofs.NodePieces.{short-fits, begins, begins-primitive, begins-var, begins-name, begins-not}
+use Rattle.text_writing.proofs.NodePieces.{short-fits, head-there, begins, begins-primitive, begins-var, begins-name, begins-not}
 use borrow.Author.Needs.{needs}
 use Rattle.text_writing.proofs.pieces.write_beginning.Statement.{statement}
 use Rattle.text_writing.proofs.pieces.write_beginning.Tie as tie
 
 kind-in-requires : tie.Need-kind-in-requires
 kind-in-requires c κs = search needs
+
+sub-body : tie.Need-sub-body
+sub-body c = search (head-there, needs)
+
+part-body-start : tie.Need-part-body-start
+part-body-start c = search (head-there, needs)
+
+part-body-end : tie.Need-part-body-end
+part-body-end c = search needs
 
 slice-aggregate-append : tie.Need-slice-aggregate-append
 slice-aggregate-append c = search needs
@@ -36,8 +45,8 @@ returns-2 : tie.Need-returns-2
 unfolding beginning tag-of
 returns-2 c = search (begins kinds.top)
 
-word-at-requires : tie.Need-word-at-requires
-word-at-requires c κs = search needs
+first-word-requires : tie.Need-first-word-requires
+first-word-requires c κs = search needs
 
 text-requires : tie.Need-text-requires
 text-requires c κs = search needs
@@ -51,8 +60,8 @@ same-length-3 c = search needs
 returns-3 : tie.Need-returns-3
 returns-3 c = search begins-primitive
 
-word-at-requires-2 : tie.Need-word-at-requires-2
-word-at-requires-2 c κs = search needs
+first-word-requires-2 : tie.Need-first-word-requires-2
+first-word-requires-2 c κs = search needs
 
 tyvar-name-requires : tie.Need-tyvar-name-requires
 tyvar-name-requires c κs = search needs
@@ -92,8 +101,8 @@ returns-6 : tie.Need-returns-6
 unfolding beginning tag-of
 returns-6 c = search (begins kinds.attr-set)
 
-word-at-requires-3 : tie.Need-word-at-requires-3
-word-at-requires-3 c κs = search needs
+first-word-requires-3 : tie.Need-first-word-requires-3
+first-word-requires-3 c κs = search needs
 
 write-name-requires : tie.Need-write-name-requires
 write-name-requires c κs = search needs
@@ -125,6 +134,9 @@ write-beginning-spec =
     tie.close
     (tie.spec
     kind-in-requires
+    sub-body
+    part-body-start
+    part-body-end
     slice-aggregate-append
     append-requires
     same-length
@@ -133,12 +145,12 @@ write-beginning-spec =
     append-requires-2
     same-length-2
     returns-2
-    word-at-requires
+    first-word-requires
     text-requires
     write-short-requires
     same-length-3
     returns-3
-    word-at-requires-2
+    first-word-requires-2
     tyvar-name-requires
     write-short-requires-2
     same-length-4
@@ -151,7 +163,7 @@ write-beginning-spec =
     append-requires-4
     same-length-6
     returns-6
-    word-at-requires-3
+    first-word-requires-3
     write-name-requires
     same-length-7
     returns-7

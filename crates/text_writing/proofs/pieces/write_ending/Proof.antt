@@ -2,7 +2,7 @@
 use Rattle.types.specs.Kind as kinds
 use Rattle.types.specs.Node.{tag-of}
 use Rattle.text_writing.specs.Text.{ending}
-use Rattle.text_writing.proofs.NodePieces.{ends, ends-not}
+use Rattle.text_writing.proofs.NodePieces.{head-there, ends, ends-set, ends-not}
 use borrow.Author.Needs.{needs}
 use Rattle.text_writing.proofs.pieces.write_ending.Statement.{statement}
 use Rattle.text_writing.proofs.pieces.write_ending.Tie as tie
@@ -23,6 +23,12 @@ returns : tie.Need-returns
 unfolding ending tag-of
 returns c = search (ends kinds.list)
 
+shared-slice-read-t13 : tie.Need-shared-slice-read-t13
+shared-slice-read-t13 c = search head-there
+
+child-words-requires : tie.Need-child-words-requires
+child-words-requires c κs = search needs
+
 write-set-ending-requires : tie.Need-write-set-ending-requires
 write-set-ending-requires c κs = search needs
 
@@ -30,8 +36,7 @@ same-length-2 : tie.Need-same-length-2
 same-length-2 c = search needs
 
 returns-2 : tie.Need-returns-2
-unfolding ending tag-of
-returns-2 c = search (ends kinds.attr-set)
+returns-2 c = search ends-set
 
 returns-3 : tie.Need-returns-3
 returns-3 c = search ends-not
@@ -45,6 +50,8 @@ write-ending-spec =
     append-requires
     same-length
     returns
+    shared-slice-read-t13
+    child-words-requires
     write-set-ending-requires
     same-length-2
     returns-2

@@ -1,5 +1,5 @@
--- A set names its children, fields first.
-use Rattle.text_writing.proofs.NodePieces.{labels-field, labels-dynamic, labels-not}
+-- A set names its children.
+use Rattle.text_writing.proofs.NodePieces.{head-there, labels-set, labels-not}
 use borrow.Author.Needs.{needs}
 use Rattle.text_writing.proofs.pieces.write_label.Statement.{statement}
 use Rattle.text_writing.proofs.pieces.write_label.Tie as tie
@@ -7,52 +7,40 @@ use Rattle.text_writing.proofs.pieces.write_label.Tie as tie
 kind-in-requires : tie.Need-kind-in-requires
 kind-in-requires c κs = search needs
 
-field-count-requires : tie.Need-field-count-requires
-field-count-requires c κs = search needs
+shared-slice-read-t10 : tie.Need-shared-slice-read-t10
+shared-slice-read-t10 c = search head-there
 
-add-at : tie.Need-add-at
-add-at c = search needs
+sub-write-set-label : tie.Need-sub-write-set-label
+sub-write-set-label c = search (head-there, needs)
 
-word-at-requires : tie.Need-word-at-requires
-word-at-requires c κs = search needs
+part-write-set-label-start : tie.Need-part-write-set-label-start
+part-write-set-label-start c = search (head-there, needs)
 
-write-field-requires : tie.Need-write-field-requires
-write-field-requires c κs = search needs
+part-write-set-label-end : tie.Need-part-write-set-label-end
+part-write-set-label-end c = search needs
+
+write-set-label-requires : tie.Need-write-set-label-requires
+write-set-label-requires c κs = search needs
 
 same-length : tie.Need-same-length
 same-length c = search needs
 
 returns : tie.Need-returns
-returns c = search labels-field
-
-slice-aggregate-append : tie.Need-slice-aggregate-append
-slice-aggregate-append c = search needs
-
-append-requires : tie.Need-append-requires
-append-requires c κs = search needs
-
-same-length-2 : tie.Need-same-length-2
-same-length-2 c = search needs
+returns c = search labels-set
 
 returns-2 : tie.Need-returns-2
-returns-2 c = search labels-dynamic
-
-returns-3 : tie.Need-returns-3
-returns-3 c = search labels-not
+returns-2 c = search labels-not
 
 pub write-label-spec : {M : Type 1} → statement M
 write-label-spec =
     tie.close
     (tie.spec
     kind-in-requires
-    field-count-requires
-    add-at
-    word-at-requires
-    write-field-requires
+    shared-slice-read-t10
+    sub-write-set-label
+    part-write-set-label-start
+    part-write-set-label-end
+    write-set-label-requires
     same-length
     returns
-    slice-aggregate-append
-    append-requires
-    same-length-2
-    returns-2
-    returns-3)
+    returns-2)

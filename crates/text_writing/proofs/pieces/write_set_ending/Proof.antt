@@ -4,14 +4,8 @@ use borrow.Author.Needs.{needs}
 use Rattle.text_writing.proofs.pieces.write_set_ending.Statement.{statement}
 use Rattle.text_writing.proofs.pieces.write_set_ending.Tie as tie
 
-word-at-requires : tie.Need-word-at-requires
-word-at-requires c κs = search needs
-
 opened-requires : tie.Need-opened-requires
 opened-requires c κs = search needs
-
-child-count-requires : tie.Need-child-count-requires
-child-count-requires c κs = search needs
 
 slice-aggregate-append-after : tie.Need-slice-aggregate-append-after
 slice-aggregate-append-after c = search needs
@@ -47,9 +41,7 @@ pub write-set-ending-spec : {M : Type 1} → statement M
 write-set-ending-spec =
     tie.close
     (tie.spec
-    word-at-requires
     opened-requires
-    child-count-requires
     slice-aggregate-append-after
     append-after-requires
     slice-aggregate-append

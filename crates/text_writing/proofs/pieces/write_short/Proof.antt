@@ -1,5 +1,5 @@
 -- The front of its bytes.
-use Rattle.types.specs.Short.{text}
+use Rattle.types.specs.Inner.{text}
 use lib.Seq.{length-take-le}
 use borrow.Author.Needs.{needs}
 use Rattle.text_writing.proofs.pieces.write_short.Statement.{statement}

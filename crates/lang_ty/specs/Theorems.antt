@@ -1,0 +1,66 @@
+-- What is shown of these definitions beyond the contracts. A statement with parameters holds for all of them.
+use Prim.Native.Nat.{ℕ, _<_}
+use mathlib.Core.Path.{_≡_}
+use mathlib.Core.Bool.{true, Bool}
+use mathlib.Core.List.{List}
+use lib.ListN.{length}
+use Rattle.types.specs.Out.{Out, ok}
+use Rattle.types.specs.Reply.{Reply, reply}
+use Rattle.types.specs.declared.Counters.{Counters}
+use Rattle.equal.specs.Reply.{equal-reply}
+use Rattle.compact.specs.Compact.{compact-reply}
+use Rattle.lang_ty.specs.Told.{told, tell, told-arena, tell-arena}
+use Rattle.lang_ty.specs.Numbered.{Numbered, ZeroIsValue, answer-of, length-of}
+use Rattle.types.specs.Arena.{Arena, sound}
+use Rattle.walks.specs.Asked.{ask-reply}
+use Rattle.questions.specs.Vars.{has-type-vars}
+use Rattle.names.specs.Reply.{table-reply, name-reply}
+use Rattle.arena.specs.Intern.{intern-reply}
+use Rattle.arena.specs.Compare.{compare-reply}
+use Rattle.display.specs.Reply.{display-reply}
+use Rattle.sheet_writing.specs.Reply.{write-sheet-reply}
+use Rattle.recursion.specs.Hosted.{work-reply}
+use Rattle.renumber.specs.Renumber.{normalize}
+use Rattle.set_op_lists.specs.SetOps.{normalize-set-ops}
+use Rattle.simplify.specs.Simplify.{simplify-reply}
+use Rattle.lang_ty.specs.Needs.{needs-var-normalization}
+
+-- 0 is told exactly of a value, which then is the lent result (01, "Who can cause which number")
+abbrev pub ToldZero : {A : Type 0} → A → Out A → ℕ → A → Type 0
+ToldZero old o r x = Numbered o → told r x ≡ tell old o → ZeroIsValue r x o
+
+-- the same of a call that is lent an arena to change
+abbrev pub ArenaZero : {A : Type 0} → A → Reply A → ℕ → A → Counters → List ℕ → List ℕ → Type 0
+ArenaZero old y r x d w s = Numbered (answer-of y) → told-arena r x d w s ≡ tell-arena old y → ZeroIsValue r x (answer-of y)
+
+-- a type that `compact` has copied is structurally equal to what it was copied from: `structurally_eq` then answers yes, under the same
+-- names (01, "arena")
+abbrev pub CompactEqual : Type 0
+CompactEqual =
+    (t w s : List ℕ) (c : Counters) (root : ℕ) (tw ts : List ℕ) (d : Counters) (m : ℕ) (d′ : Counters) (tw′ ts′ : List ℕ)
+    → compact-reply t w s c root tw ts d ≡ reply (ok m) d′ tw′ ts′ → equal-reply t w s c root t tw′ ts′ d′ m ≡ ok true
+
+-- `needs_var_normalization` asks what `has_type_vars` asks, so that the contract of both is the same (01, "arena")
+pub record NeedsIsHas : Type 0 where
+  pub is : (table : ℕ) (a : Arena) → sound table a ≡ true → (root : ℕ) → root < length a
+      → needs-var-normalization a root ≡ has-type-vars a root
+  pub answer : (t w s : List ℕ) (c : Counters) (root : ℕ)
+      → ask-reply needs-var-normalization t w s c root ≡ ask-reply has-type-vars t w s c root
+
+-- of what each call is defined to answer the number is 0 exactly for a value, and at most 10. A call that is never refused isn't listed: it
+-- always answers 0
+pub record AllNumbered : Type 1 where
+  pub table : (t : List ℕ) → Numbered (table-reply t)
+  pub name : (t : List ℕ) (number : ℕ) → Numbered (name-reply t number)
+  pub compare : (t w s : List ℕ) (c : Counters) (m n : ℕ) → Numbered (compare-reply t w s c m n)
+  pub ask : {A : Type 0} (q : Arena → ℕ → A) (t w s : List ℕ) (c : Counters) (root : ℕ) → Numbered (ask-reply q t w s c root)
+  pub equal : (t w s : List ℕ) (c : Counters) (m : ℕ) (u v r : List ℕ) (d : Counters) (n : ℕ) → Numbered (equal-reply t w s c m u v r d n)
+  pub display : (t w s : List ℕ) (c : Counters) (root : ℕ) (b : List ℕ) → Numbered (length-of (display-reply t w s c root b))
+  pub write-sheet : (t w s : List ℕ) (c : Counters) (root : ℕ) (b : List ℕ) → Numbered (length-of (write-sheet-reply t w s c root b))
+  pub intern : (t w s : List ℕ) (c : Counters) (ws : List ℕ) → Numbered (answer-of (intern-reply t w s c ws))
+  pub simplify : (t w s : List ℕ) (c : Counters) (root : ℕ) → Numbered (answer-of (simplify-reply t w s c root))
+  pub normalize-vars : (replacing : Bool) (t w s : List ℕ) (c : Counters) (root : ℕ)
+      → Numbered (answer-of (work-reply (normalize replacing) t w s c root))
+  pub normalize-set-ops : (t w s : List ℕ) (c : Counters) (root : ℕ) → Numbered (answer-of (work-reply normalize-set-ops t w s c root))
+  pub compact : (t w s : List ℕ) (c : Counters) (root : ℕ) (tw ts : List ℕ) (d : Counters)
+      → Numbered (answer-of (compact-reply t w s c root tw ts d))

@@ -1,0 +1,3 @@
+pub mod Applied
+pub mod Caches
+pub mod Once

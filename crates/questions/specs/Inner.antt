@@ -1,0 +1,2 @@
+pub mod Lambdas
+pub mod Vars

@@ -1,0 +1,9 @@
+pub mod Evaluated
+pub mod Numbers
+pub mod Naming
+pub mod Storing
+pub mod Reading
+pub mod Accepting
+pub mod Writing
+pub mod Replies
+pub mod Theorems

@@ -1,0 +1,5 @@
+pub mod Bytes
+pub mod Worked
+pub mod Reply
+pub mod Theorems
+pub mod Inner
