@@ -1,6 +1,6 @@
 // The calls of the C interface on nodes, names and texts, a part of the static library (host/archive): each hands its arguments to
 // the call of that name and tells the answer as a number, 0 or that of a refusal. A result is written where it is lent; a refusal
-// writes none.
+// writes none, but 9 clears the bytes that are lent to `display`.
 use arena::Compared;
 use arena::compare;
 use display::Displayed;
@@ -46,9 +46,9 @@ pub extern "C" fn lang_ty_intern(
         ≡ tell-arena (now (number .entry)) (intern-reply (now (table .entry)) (now (words .entry)) (now (starts .entry))
         record { nodes = now (nodes .entry); words = now (used .entry) } (now (node .entry))) ⌝ }
 {
-    let answer = intern_lent_pair(table, words, starts, nodes, used, node);
-    let Stored::Node(n) = answer else {
-        return answer.refusal();
+    let stored = intern_lent_pair(table, words, starts, nodes, used, node);
+    let Stored::Node(n) = stored else {
+        return stored.refusal();
     };
     *number = n;
     0

@@ -1,6 +1,6 @@
 // The calls of the C interface that rewrite a type, a part of the static library (host/archive): each hands its arguments to the
 // call of that name and tells the answer as a number, 0 or that of a refusal. A result is written where it is lent; a refusal
-// writes none.
+// writes none, but 7 clears the target of `compact`.
 use compact::Copied;
 use compact::compact;
 use node_store::added::Interned;
@@ -43,9 +43,9 @@ pub extern "C" fn lang_ty_simplify(
         nodes: *nodes,
         words: *used,
     };
-    let answer = simplify(table, words, starts, c, root);
-    let Simplified::Type(n, made, d) = answer else {
-        return answer.refusal();
+    let simplified = simplify(table, words, starts, c, root);
+    let Simplified::Type(n, made, d) = simplified else {
+        return simplified.refusal();
     };
     *nodes = d.nodes;
     *used = d.words;

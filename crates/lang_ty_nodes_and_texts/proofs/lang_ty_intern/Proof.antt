@@ -11,8 +11,8 @@ use Rattle.lang_ty_nodes_and_texts.proofs.lang_ty_intern.Tie as tie
 intern-lent-pair-requires : tie.Need-intern-lent-pair-requires
 intern-lent-pair-requires c κs = search needs
 
-enum-known-answer : tie.Need-enum-known-answer
-enum-known-answer c = search needs
+enum-known-stored : tie.Need-enum-known-stored
+enum-known-stored c = search needs
 
 enum-told : tie.Need-enum-told
 enum-told c = search needs
@@ -43,7 +43,7 @@ lang-ty-intern-spec =
     tie.close
     (tie.spec
     intern-lent-pair-requires
-    enum-known-answer
+    enum-known-stored
     enum-told
     refusal-requires
     same-length

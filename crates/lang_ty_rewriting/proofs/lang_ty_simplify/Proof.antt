@@ -11,8 +11,8 @@ use Rattle.lang_ty_rewriting.proofs.lang_ty_simplify.Tie as tie
 simplify-requires : tie.Need-simplify-requires
 simplify-requires c κs = search needs
 
-enum-known-answer : tie.Need-enum-known-answer
-enum-known-answer c = search needs
+enum-known-simplified : tie.Need-enum-known-simplified
+enum-known-simplified c = search needs
 
 enum-told : tie.Need-enum-told
 enum-told c = search needs
@@ -43,7 +43,7 @@ lang-ty-simplify-spec =
     tie.close
     (tie.spec
     simplify-requires
-    enum-known-answer
+    enum-known-simplified
     enum-told
     refusal-requires
     same-length
