@@ -9,22 +9,24 @@ use lib.Seq.{length-take-le}
 use mir.Syntax.{w64}
 use mir.Val.{Fits}
 use Rattle.types.specs.Node.{Node, node, tag, children, encode, below, formed, well, IsNode}
-use Rattle.types.specs.Arena.{Arena, at}
+use Rattle.types.specs.Arena.{Arena, at, find}
 use Rattle.types.specs.Fault.{children-in}
 use Rattle.types.specs.Memory.{Holds}
 use Rattle.types.specs.declared.Counters.{Counters}
 use Rattle.types.proofs.Lists.{below-more}
-use Rattle.types.proofs.Nodes.{nil, formed-parts}
+use Rattle.types.proofs.Nodes.{nil, formed-parts, encode-injective}
 use Rattle.types.proofs.Sound.{at-well, at-formed}
 use Rattle.types.proofs.Addresses.{start-room}
+use Rattle.types.proofs.Decodes.{well-parts}
+use Rattle.types.proofs.Memories.{unique}
 use Rattle.node_store.specs.Inner.Stored.{InRange, NodeAt}
-use Rattle.node_store.specs.Inner.Added.{Fresh, Interns}
+use Rattle.node_store.specs.Inner.Added.{Fresh, Absent, Interns}
 use Rattle.node_store.specs.declared.added.Interned.{Interned}
 use Rattle.recursion.proofs.Interning.{node-is, well-again}
 use Rattle.rebuilding.specs.Inner.Rebuilt.{AsMany, Exchanging, Exchanged}
 use Rattle.rebuilding.proofs.Copying.{children-read, few-read}
 use Rattle.rebuilding.proofs.Exchanging.{length-given, exchanged-encode}
-use Rattle.copying.specs.Inner.{CopyReady, Copies}
+use Rattle.copying.specs.Inner.{CopyReady, CopyNew, Copies}
 
 module _ {w s : List ℕ} {c : Counters} {n : ℕ} {items : List ℕ} {count : ℕ} {tw ts : List ℕ} {d : Counters} (R : CopyReady w s c n items count tw ts d) where
   copy-range : InRange w s c n
@@ -69,6 +71,18 @@ module _ {w s : List ℕ} {c : Counters} {n : ℕ} {items : List ℕ} {count : �
           go : (x : Node) → ws′ ≡ encode (node (tag x) (take count items)) → well table n x ≡ true → count ≡ length (children x) → IsNode table (length a) ws′ (node (tag x) (take count items))
           go (node t cs) q g k = record { words = q; good = well-again table (length a) (omega (arith, few-nodes, K .nodes)) n t cs (take count items) g (length-given copy-many ∙ k) low }
 
+    -- and isn't found there
+    not-there : CopyNew w s c n items count tw ts d → {ws′ : List ℕ} → ws′ ≡ encode (node (tag (at (R .source) n)) (take count items)) → Absent tw ts d ws′
+    not-there F {ws′} q =
+        let x = node (tag (at (R .source) n)) (take count items) in
+        let W = well-parts (R .table) (length (R .target)) x (may-add (R .from) (R .to) q .good) in
+        record {
+          is = record {
+            is = λ t a y K p v. sym
+                ((λ i. find (encode-injective y x p (W .formed-so) (sym v ∙ q) i) (unique K (R .to) i)) ∙ F .is (R .table) (R .source) (R .target) (R .from) (R .to));
+          };
+        }
+
     -- ---- a node without children has its own words
     module _ (z : count ≡ 0) where
       leaf-words : {table : ℕ} {u : Arena} → Holds table w s c u → ws ≡ encode (node (tag (at u n)) (take count items))
@@ -79,6 +93,9 @@ module _ {w s : List ℕ} {c : Counters} {n : ℕ} {items : List ℕ} {count : �
 
       pub leaf-fresh : Fresh tw ts d ws
       leaf-fresh = record { table = R .table; view = R .target; holds = R .to; node = node (tag (at (R .source) n)) (take count items); is = may-add (R .from) (R .to) (leaf-words (R .from)) }
+
+      pub leaf-absent : CopyNew w s c n items count tw ts d → Absent tw ts d ws
+      leaf-absent F = not-there F (leaf-words (R .from))
 
       pub leaf-copied : {tw′ ts′ : List ℕ} {o : Interned} → Interns tw ts d ws tw′ ts′ o → Copies w s c n items count tw ts d tw′ ts′ o
       leaf-copied I = record { is = λ table u a H K. I .is table a (node (tag (at u n)) (take count items)) K (may-add H K (leaf-words H)) }
@@ -106,6 +123,9 @@ module _ {w s : List ℕ} {c : Counters} {n : ℕ} {items : List ℕ} {count : �
 
         pub copy-fresh : Fresh tw ts d (take (count + 1) new)
         copy-fresh = record { table = R .table; view = R .target; holds = R .to; node = node (tag (at (R .source) n)) (take count items); is = may-add (R .from) (R .to) (new-words (R .from)) }
+
+        pub copy-absent : CopyNew w s c n items count tw ts d → Absent tw ts d (take (count + 1) new)
+        copy-absent F = not-there F (new-words (R .from))
 
         pub copied : {tw′ ts′ : List ℕ} {o : Interned} → Interns tw ts d (take (count + 1) new) tw′ ts′ o → Copies w s c n items count tw ts d tw′ ts′ o
         copied I = record { is = λ table u a H K. I .is table a (node (tag (at u n)) (take count items)) K (may-add H K (new-words H)) }

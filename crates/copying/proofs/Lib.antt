@@ -5,4 +5,6 @@ pub mod Nodes
 pub mod Copies
 pub mod Counts
 pub mod Running
+pub mod NewCopies
+pub mod CachedCopies
 pub mod Rooms

@@ -59,13 +59,13 @@ pub record Ran (table : ℕ) (u a : Arena) (n m : ℕ) (b : Arena) : Type 0 wher
   pub new : (k : ℕ) → length a ≤ k → k < length b → From u b n k
   pub counts : Counted u a → Counted u b
 
-record FromOne (u b : Arena) (cs : List ℕ) (k : ℕ) : Type 0 where
+pub record FromOne (u b : Arena) (cs : List ℕ) (k : ℕ) : Type 0 where
   pub index : ℕ
   pub inside : index < length cs
   pub from : From u b (getD cs index 0) k
 
 -- of several nodes in turn
-record RanAll (table : ℕ) (u a : Arena) (cs ms : List ℕ) (b : Arena) : Type 0 where
+pub record RanAll (table : ℕ) (u a : Arena) (cs ms : List ℕ) (b : Arena) : Type 0 where
   pub ext : Ext a b
   pub good : sound table b ≡ true
   pub count : length ms ≡ length cs
@@ -88,7 +88,7 @@ ran-more {u = u} {a} {b} {d} {c} {m} {cs} {ms} R S = record { ext = ext-trans (R
     go k l h (no p) = let F = S .new k (omega (arith, p)) h in record { index = suc (F .index); inside = omega (arith, F .inside); from = F .from }
 
 -- a node that was added is the last
-last-added : {lw ls : ℕ} {x : Node} {a b : Arena} {m : ℕ} → Done lw ls x a m b → (k : ℕ) → length a ≤ k → k < length b → k ≡ m
+pub last-added : {lw ls : ℕ} {x : Node} {a b : Arena} {m : ℕ} → Done lw ls x a m b → (k : ℕ) → length a ≤ k → k < length b → k ≡ m
 last-added (stored p) k l h = absurd (omega arith)
 last-added (added p q) k l h = omega arith
 
@@ -131,19 +131,28 @@ module _ (words starts table : ℕ) (few : starts ≤ 4096) (u : Arena) (g : sou
           let q = last-added (done words starts (node (tag (at u n)) ms) d m b e) k (omega (arith, p)) h in
           record { source = n; under = λ s. record { sign = s; place = self }; copy = subst (CopyOf u b n) (sym q) whole }
 
+  children-runs : (n : ℕ) → n < length u → ((c : ℕ) → c < n → Runs c) → (a : Arena) (ms : List ℕ) (b : Arena) → sound table a ≡ true → each (copy words starts u) (children (at u n)) a ≡ ok (ms, b) → RanAll table u a (children (at u n)) ms b
+  children-runs n l h = each-runs (children (at u n)) (λ c i. h c (let x = index-of i in omega (arith, x .is, child-lower table u g n l (x .index) (x .inside))))
+
   runs : (j n : ℕ) → n < j → n < length u → Runs n
   unfolding rebuild
   runs zero n k l a m b h e = absurd (omega arith)
   runs (suc j) n k l a m b h e =
       let p = bind-parts (each (copy words starts u) (children (at u n)) a) _ (sym (copy-at words starts table u g n l a) ∙ e) in
-      let low : (c : ℕ) → Mem c (children (at u n)) → c < n = λ c i. let x = index-of i in omega (arith, x .is, child-lower table u g n l (x .index) (x .inside)) in
-      made n l (each-runs (children (at u n)) (λ c i. runs j c (omega (arith, low c i, k)) (omega (arith, low c i, l))) a (p .0 .0) (p .0 .1) h (p .1)) m b (p .2)
+      made n l (children-runs n l (λ c i. runs j c (omega (arith, i, k)) (omega (arith, i, l))) a (p .0 .0) (p .0 .1) h (p .1)) m b (p .2)
+
+  -- a finished copy of node n, and of its children
+  pub copy-ran : (n : ℕ) → n < length u → Runs n
+  copy-ran n = runs (suc n) n (omega arith)
+
+  pub children-ran : (n : ℕ) → n < length u → (a : Arena) (ms : List ℕ) (b : Arena) → sound table a ≡ true → each (copy words starts u) (children (at u n)) a ≡ ok (ms, b) → RanAll table u a (children (at u n)) ms b
+  children-ran n l = children-runs n l (λ c i. runs n c i (omega (arith, i, l)))
 
   -- ---- from the empty target
   module _ (root m : ℕ) (b : Arena) (l : root < length u) (e : copy words starts u root [] ≡ ok (m, b)) where
     ran : Ran table u [] root m b
     unfolding sound
-    ran = runs (suc root) root (omega arith) l [] m b refl e
+    ran = copy-ran root l [] m b refl e
 
     -- the target is sound and has the copy
     pub compact-sound : sound table b ≡ true

@@ -10,7 +10,6 @@ use Rattle.types.specs.Node.{tag, children}
 use Rattle.types.specs.Arena.{Arena, at, sound}
 use Rattle.types.specs.declared.Counters.{Counters}
 use Rattle.types.proofs.Nodes.{cons}
-use Rattle.types.proofs.Memories.{unique}
 use Rattle.types.proofs.Addresses.{start-room}
 use Rattle.names.specs.Table.{Name}
 use Rattle.equal.specs.Equal.{Tree, over, label-of, tree}
@@ -52,14 +51,6 @@ module _ (ns : List Name) (table : ℕ) (a : Arena) (h : sound table a ≡ true)
       ∙ ap₂ over (A .labels) (trees-beside (tree ns a) (tree ms b) (children (at a n)) (children (at b p)) (A .counts) (λ x l. f _ _ (record { index = x; inside = l; left = refl; right = refl })))
       ∙ sym (tree-at ms other b k p j)
 
--- ---- one side has one list of names and one arena
-module _ {t w s : List ℕ} {c : Counters} (L M : Side t w s c) where
-  pub side-names : L .names ≡ M .names
-  side-names = let p = L .is in let q = M .is in cc
-
-  pub side-view : L .view ≡ M .view
-  side-view = unique (L .holds) (M .holds)
-
--- its nodes are at most 4,096
+-- ---- the nodes of a side are at most 4,096
 pub side-small : {t w s : List ℕ} {c : Counters} {n : ℕ} → Side t w s c → n < c .nodes → n < 4096
 side-small S l = let H = S .holds in omega (arith, l, start-room H, H .few-starts)

@@ -1,101 +1,117 @@
--- Two field words, and as many of them, spell the same: by their marks and the order of their texts, one after another.
-use Prim.Native.Nat.{ℕ, _+_, _<_, _≤_}
+-- Two field words, and as many of them, are the same by a map of names: by their marks and then by the map, one after another. The fields of two nodes so are spelt the same, and no others are.
+use Prim.Native.Nat.{ℕ, _+_, _*_, _<_, _≤_}
 use mathlib.Core.Path.{_≡_, refl, sym, ap, ap₂, _∙_}
 use mathlib.Core.Bool.{Bool, true, false, not, _&&_, Bool·beq}
 use mathlib.Core.List.{List, [], _∷_, map}
 use native.Mathlib.Omega.{arith}
 use native.Mathlib.Numerals.{add-one}
+use mir.Syntax.{w64}
+use mir.Val.{Fits}
 use lib.ListN.{length, getD, drop, drop-of-length-le, List·getD-eq-default}
 use lib.Seq.{drop-cons}
-use borrow.Author.Tests.{not-true as negated, not-false}
+use lib.Dec.{eqb}
+use borrow.Author.Tests.{eqb-true, eq-eqb, not-true as negated, not-false}
 use Rattle.words.specs.Words.{field-optional, field-name}
-use Rattle.types.specs.Same.{same}
-use Rattle.types.specs.declared.Ordering.{Ordering}
-use Rattle.types.specs.declared.Ordering.the-variants.{Less, Equal, Greater}
-use Rattle.types.proofs.Tests.{true-false, and-true, both, same-truth, same-true, same-if, same-not}
+use Rattle.words.proofs.Words.{field-bounded}
+use Rattle.types.specs.Node.{field-of, field-names, below}
+use Rattle.types.proofs.Tests.{true-false, and-true, both}
+use Rattle.types.proofs.Lists.{below-cons}
 use Rattle.types.proofs.Nodes.{cons}
-use Rattle.names.specs.Table.{Name, name-order, name-text}
-use Rattle.names.proofs.Numbers.{name-order-total}
-use Rattle.equal.specs.Equal.{spelling, spelling-dec, spellings-dec}
-use Rattle.equal.specs.Inner.Data.{spelt, same-spelt}
+use Rattle.names.specs.Table.{Name}
+use Rattle.equal.specs.Equal.{spelling, spell}
+use Rattle.equal.specs.Inner.Names.{Matches}
+use Rattle.equal.specs.Inner.Data.{same-field, same-fields}
 
 -- ---- two flags
-flags-differ : (a b : Bool) → not (Bool·beq a b) ≡ true → a ≡ b → ⊥
-flags-differ true true h e = true-false (sym h)
-flags-differ true false h e = true-false e
-flags-differ false true h e = true-false (sym e)
-flags-differ false false h e = true-false (sym h)
-
-flags-same : (a b : Bool) → not (Bool·beq a b) ≡ false → a ≡ b
+flags-same : (a b : Bool) → Bool·beq a b ≡ true → a ≡ b
 flags-same true true h = refl
-flags-same true false h = absurd (true-false h)
-flags-same false true h = absurd (true-false h)
+flags-same true false h = absurd (true-false (sym h))
+flags-same false true h = absurd (true-false (sym h))
 flags-same false false h = refl
 
+same-flags : (a b : Bool) → a ≡ b → Bool·beq a b ≡ true
+same-flags true true h = refl
+same-flags true false h = absurd (true-false h)
+same-flags false true h = absurd (true-false (sym h))
+same-flags false false h = refl
+
 -- ---- two fields
-module _ (t u : List ℕ) (v w : ℕ) where
-  parts : spelt t v ≡ spelt u w → (field-optional v ≡ field-optional w) × (name-text t (field-name v) ≡ name-text u (field-name w))
-  unfolding spelt
-  parts e = (cc, cc)
+module _ (ks : List ℕ) (v w : ℕ) {a b : Bool} (p : a ≡ field-optional v) (q : b ≡ field-optional w) where
+  by-marks : {x : Bool} → Bool·beq a b ≡ x → same-field ks v w ≡ (x && eqb (getD ks (field-name v) 0) (field-name w + 1))
+  unfolding same-field
+  by-marks e = ap (λ (x : Bool). x && eqb (getD ks (field-name v) 0) (field-name w + 1)) (ap₂ Bool·beq (sym p) (sym q) ∙ e)
 
-  module _ {a b : Bool} (p : a ≡ field-optional v) (q : b ≡ field-optional w) where
-    pub marks-differ : not (Bool·beq a b) ≡ true → false ≡ same spelling-dec (spelt t v) (spelt u w)
-    marks-differ h = sym (same-not spelling-dec (spelt t v) (spelt u w) (λ e. flags-differ a b h (p ∙ parts e .0 ∙ sym q)))
+  pub marks-differ : not (Bool·beq a b) ≡ true → false ≡ same-field ks v w
+  marks-differ h = sym (by-marks (negated (Bool·beq a b) h))
 
-    module _ (h : not (Bool·beq a b) ≡ false) {i j : ℕ} (k : i ≡ field-name v) (l : j ≡ field-name w) {x y : Name} (m : x ≡ name-text t i) (n : y ≡ name-text u j) {o : Ordering} (c : o ≡ name-order x y) where
-      texts : name-order (name-text t (field-name v)) (name-text u (field-name w)) ≡ o
-      texts = sym (c ∙ ap₂ name-order (m ∙ ap (name-text t) k) (n ∙ ap (name-text u) l))
+  pub names-told : not (Bool·beq a b) ≡ false → {i j k : ℕ} → i ≡ field-name v → k ≡ getD ks i 0 → j ≡ field-name w → eqb k (j + 1) ≡ same-field ks v w
+  names-told h e f g = sym (by-marks (not-false (Bool·beq a b) h) ∙ sym (ap₂ eqb (f ∙ ap (λ (x : ℕ). getD ks x 0) e) (ap (λ (x : ℕ). x + 1) g)))
 
-      pub names-same : o ≡ Equal → true ≡ same spelling-dec (spelt t v) (spelt u w)
-      unfolding spelt
-      names-same e = sym (same-if spelling-dec (spelt t v) (spelt u w) (ap₂ spelling (sym p ∙ flags-same a b h ∙ q) (name-order-total .equal _ _ (texts ∙ e))))
+-- the number of a name is below 256
+module _ (v : ℕ) {i : ℕ} (e : i ≡ field-name v) where
+  pub name-small : i < 256
+  name-small = omega (arith, e, field-bounded v .few-names)
 
-      names-differ : (o ≡ Equal → ⊥) → false ≡ same spelling-dec (spelt t v) (spelt u w)
-      names-differ f = sym (same-not spelling-dec (spelt t v) (spelt u w) (λ e. f (sym texts ∙ ap (name-order (name-text t (field-name v))) (sym (parts e .1)) ∙ name-order-total .refl-equal _)))
+  pub name-place : Fits w64 (i * 4)
+  name-place = omega (arith, name-small)
 
-      pub names-less : o ≡ Less → false ≡ same spelling-dec (spelt t v) (spelt u w)
-      names-less e = names-differ (λ f. let z : _≡_ {A = ℕ} 0 1 = cc in omega arith)
-
-      pub names-greater : o ≡ Greater → false ≡ same spelling-dec (spelt t v) (spelt u w)
-      names-greater e = names-differ (λ f. let z : _≡_ {A = ℕ} 0 1 = cc in omega arith)
+  pub name-next : Fits w64 (i + 1)
+  name-next = omega (arith, name-small)
 
 -- ---- as many of each
-cons-same : (t u : List ℕ) (v w : ℕ) (e f : List ℕ) → same-spelt t (v ∷ e) u (w ∷ f) ≡ (same spelling-dec (spelt t v) (spelt u w) && same-spelt t e u f)
-unfolding same-spelt
-cons-same t u v w e f =
-    same-truth (same-spelt t (v ∷ e) u (w ∷ f)) _
-    (λ h. let q = same-true spellings-dec (map (spelt t) (v ∷ e)) (map (spelt u) (w ∷ f)) h in both (same-if spelling-dec (spelt t v) (spelt u w) (cc)) (same-if spellings-dec (map (spelt t) e) (map (spelt u) f) (cc)))
-    (λ h.
-    let p = and-true (same spelling-dec (spelt t v) (spelt u w)) (same-spelt t e u f) h in
-    let q = same-true spelling-dec (spelt t v) (spelt u w) (p .0) in
-    let r = same-true spellings-dec (map (spelt t) e) (map (spelt u) f) (p .1) in
-    same-if spellings-dec (map (spelt t) (v ∷ e)) (map (spelt u) (w ∷ f)) (cons q r))
-
--- the words passed spell the same, so the rests decide
-pub record Spelling-so-far (t e u f : List ℕ) (i : ℕ) : Type 0 where
+-- the words passed are the same, so the rests decide
+pub record Same-so-far (ks e f : List ℕ) (i : ℕ) : Type 0 where
   pub long : length e ≡ length f
   pub high : i ≤ length e
-  pub rest : same-spelt t e u f ≡ same-spelt t (drop i e) u (drop i f)
+  pub rest : same-fields ks e f ≡ same-fields ks (drop i e) (drop i f)
 
-module _ {t e u f : List ℕ} where
-  pub spelling-start : length e ≡ length f → Spelling-so-far t e u f 0
-  spelling-start h = record { long = h; high = omega arith; rest = refl }
+module _ {ks e f : List ℕ} where
+  pub fields-start : length e ≡ length f → Same-so-far ks e f 0
+  fields-start h = record { long = h; high = omega arith; rest = refl }
 
-  module _ {i : ℕ} (S : Spelling-so-far t e u f i) where
-    next : i < length e → {b : Bool} → b ≡ same spelling-dec (spelt t (getD e i 0)) (spelt u (getD f i 0)) → same-spelt t e u f ≡ (b && same-spelt t (drop (i + 1) e) u (drop (i + 1) f))
+  module _ {i : ℕ} (S : Same-so-far ks e f i) where
+    next : i < length e → {b : Bool} → b ≡ same-field ks (getD e i 0) (getD f i 0) → same-fields ks e f ≡ (b && same-fields ks (drop (i + 1) e) (drop (i + 1) f))
+    unfolding same-fields
     next h q =
-        S .rest ∙ ap₂ (λ (x y : List ℕ). same-spelt t x u y) (drop-cons e i 0 h) (drop-cons f i 0 (omega (arith, S .long))) ∙ cons-same t u _ _ _ _
-        ∙ ap₂ (λ (x : Bool) (k : ℕ). x && same-spelt t (drop k e) u (drop k f)) (sym q) (sym (add-one i))
+        S .rest ∙ ap₂ (same-fields ks) (drop-cons e i 0 h) (drop-cons f i 0 (omega (arith, S .long)))
+        ∙ ap₂ (λ (x : Bool) (k : ℕ). x && same-fields ks (drop k e) (drop k f)) (sym q) (sym (add-one i))
 
-    pub spelling-other : i < length e → {b : Bool} → b ≡ same spelling-dec (spelt t (getD e i 0)) (spelt u (getD f i 0)) → not b ≡ true → false ≡ same-spelt t e u f
-    spelling-other h {b} q r = sym (next h q ∙ rw (negated b r))
+    pub fields-other : i < length e → {b : Bool} → b ≡ same-field ks (getD e i 0) (getD f i 0) → not b ≡ true → false ≡ same-fields ks e f
+    fields-other h {b} q r = sym (next h q ∙ rw (negated b r))
 
-    pub spelling-more : i < length e → {b : Bool} → b ≡ same spelling-dec (spelt t (getD e i 0)) (spelt u (getD f i 0)) → not b ≡ false → Spelling-so-far t e u f (i + 1)
-    spelling-more h {b} q r = record { long = S .long; high = omega arith; rest = next h q ∙ rw (not-false b r) }
+    pub fields-more : i < length e → {b : Bool} → b ≡ same-field ks (getD e i 0) (getD f i 0) → not b ≡ false → Same-so-far ks e f (i + 1)
+    fields-more h {b} q r = record { long = S .long; high = omega arith; rest = next h q ∙ rw (not-false b r) }
 
-    pub spelling-done : length e ≤ i → true ≡ same-spelt t e u f
-    unfolding same-spelt
-    spelling-done h = sym (S .rest ∙ ap₂ (λ (x y : List ℕ). same-spelt t x u y) (drop-of-length-le e h) (drop-of-length-le f {i = i} (omega (arith, S .long))) ∙ same-if spellings-dec [] [] refl)
+    pub fields-done : length e ≤ i → true ≡ same-fields ks e f
+    unfolding same-fields
+    fields-done h = sym (S .rest ∙ ap₂ (same-fields ks) (drop-of-length-le e h) (drop-of-length-le f {i = i} (omega (arith, S .long))))
+
+-- ---- the fields of two nodes
+module _ {ns ms : List Name} {ks : List ℕ} (M : Matches ns ms ks) where
+  pub fields-spelt : (e f : List ℕ) → below (length ns) (field-names (map field-of e)) ≡ true → below (length ms) (field-names (map field-of f)) ≡ true → same-fields ks e f ≡ true → map (spell ns) (map field-of e) ≡ map (spell ms) (map field-of f)
+  unfolding same-fields same-field
+  fields-spelt [] [] p q h = refl
+  fields-spelt [] (w ∷ f) p q h = absurd (true-false (sym h))
+  fields-spelt (v ∷ e) [] p q h = absurd (true-false (sym h))
+  fields-spelt (v ∷ e) (w ∷ f) p q h =
+      let x = below-cons (length ns) (field-name v) (field-names (map field-of e)) p in
+      let y = below-cons (length ms) (field-name w) (field-names (map field-of f)) q in
+      let g = and-true (same-field ks v w) (same-fields ks e f) h in
+      let k = and-true (Bool·beq (field-optional v) (field-optional w)) (eqb (getD ks (field-name v) 0) (field-name w + 1)) (g .0) in
+      cons (ap₂ spelling (flags-same _ _ (k .0)) (M .texts (field-name v) (field-name w) (x .0) (y .0) (eqb-true _ _ (k .1)))) (fields-spelt e f (x .1) (y .1) (g .1))
+
+  pub spelt-fields : (e f : List ℕ) → below (length ns) (field-names (map field-of e)) ≡ true → below (length ms) (field-names (map field-of f)) ≡ true → map (spell ns) (map field-of e) ≡ map (spell ms) (map field-of f) → same-fields ks e f ≡ true
+  unfolding same-fields same-field
+  spelt-fields [] [] p q h = refl
+  spelt-fields [] (w ∷ f) p q h = let z : _≡_ {A = ℕ} 0 1 = cc in absurd (omega arith)
+  spelt-fields (v ∷ e) [] p q h = let z : _≡_ {A = ℕ} 0 1 = cc in absurd (omega arith)
+  spelt-fields (v ∷ e) (w ∷ f) p q h =
+      let x = below-cons (length ns) (field-name v) (field-names (map field-of e)) p in
+      let y = below-cons (length ms) (field-name w) (field-names (map field-of f)) q in
+      let o : field-optional v ≡ field-optional w = cc in
+      let n : getD ns (field-name v) [] ≡ getD ms (field-name w) [] = cc in
+      let r : map (spell ns) (map field-of e) ≡ map (spell ms) (map field-of f) = cc in
+      both (both (same-flags _ _ o) (eq-eqb _ _ (M .numbers (field-name v) (field-name w) (x .0) (y .0) n))) (spelt-fields e f (x .1) (y .1) r)
 
 -- ---- the word after the head
 pub no-own : (ws : List ℕ) → length ws < 2 → 0 ≡ getD ws 1 0

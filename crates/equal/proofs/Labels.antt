@@ -3,19 +3,16 @@ use Prim.Native.Nat.{ℕ, suc, _+_, _-_, _<_, _≤_}
 use mathlib.Core.Path.{_≡_, refl, sym, ap, _∙_}
 use mathlib.Core.Bool.{false}
 use mathlib.Core.List.{List, [], _∷_, map}
-use mathlib.Core.Option.{some}
 use native.Mathlib.Omega.{arith}
 use lib.ListN.{length, getD, take, length-append}
 use borrow.Author.Tests.{eqb-true}
-use Rattle.words.specs.Words.{bit, field-optional, field-name}
+use Rattle.words.specs.Words.{bit}
 use Rattle.types.specs.Kind.{disc, body-count}
 use Rattle.types.specs.Node.{positive, negative, field, primitive, list, lambda, attrset, named, Tag, members, bound, var, neg, form, node, kind, data-of, child-words, body, field-of}
 use Rattle.types.proofs.Nodes.{nil, cons, Formed, length-child-words, fields-back}
 use Rattle.node_order.specs.WordsOrder.{field-count}
-use Rattle.names.specs.Table.{Name, names-of}
-use Rattle.names.proofs.Tables.{name-text-is}
-use Rattle.equal.specs.Equal.{spelling, label, spell, label-of}
-use Rattle.equal.specs.Inner.Data.{spelt}
+use Rattle.names.specs.Table.{Name}
+use Rattle.equal.specs.Equal.{label, label-of}
 
 -- ---- below kind 4
 pub record Plain (ns : List Name) (t : Tag) (cs : List ℕ) : Type 0 where
@@ -68,12 +65,6 @@ fielded (form (attrset fs d o)) cs F h =
 fielded (form (named n)) cs F h =
     let k : length (child-words (field false n ∷ []) cs) ≡ 1 = eqb-true _ 1 (F .counted) in
     record { numberless = refl; fields = rw k (sym (fields-back (field false n ∷ []) cs (F .few-names) (F .few-nodes) (omega (arith, length-child-words (field false n ∷ []) cs)))) }
-
--- fields spelt by the names of a table, and by its bytes
-pub fields-spelt : (t : List ℕ) (ns : List Name) → names-of t ≡ some ns → (ws : List ℕ) → map (spell ns) (map field-of ws) ≡ map (spelt t) ws
-unfolding spelt
-fields-spelt t ns e [] = refl
-fields-spelt t ns e (w ∷ ws) = cons (ap (spelling (field-optional w)) (sym (name-text-is t ns (field-name w) e))) (fields-spelt t ns e ws)
 
 -- ---- the words of the body
 pub body-length : (t : Tag) (cs : List ℕ) → length (body (node t cs)) ≡ length (data-of t .numbers) + length cs

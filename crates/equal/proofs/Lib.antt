@@ -1,4 +1,5 @@
 pub mod OnePartner
+pub mod Merging
 pub mod Labels
 pub mod Fields
 pub mod SameNodes

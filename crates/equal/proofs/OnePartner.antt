@@ -19,6 +19,7 @@ use Rattle.types.proofs.Sound.{at-well, at-formed, children-below, fold-at, at-
 use Rattle.names.specs.Table.{Name, name-order, names-of}
 use Rattle.names.proofs.Numbers.{name-order-total, number-order}
 use Rattle.equal.specs.Equal.{Label, Tree, over, spell, label-of, tree}
+use Rattle.equal.specs.Inner.Data.{Named}
 use Rattle.equal.specs.Theorems.{OnePartner}
 
 -- ---- a tree has one label and one list of children
@@ -39,7 +40,7 @@ tree-at ns table a h n l = fold-at (λ (t : Tag) (ts : List Tree). over (label-o
 
 -- ---- fields that spell the same under one table
 module _ (t : List ℕ) (ns : List Name) (e : names-of t ≡ some ns) where
-  text-number : (i j : ℕ) → i < length ns → j < length ns → getD ns i [] ≡ getD ns j [] → i ≡ j
+  pub text-number : (i j : ℕ) → i < length ns → j < length ns → getD ns i [] ≡ getD ns j [] → i ≡ j
   text-number i j h k q =
       order-total .equal i j (sym (number-order t ns e i j h k) ∙ ap (name-order (getD ns i [])) (sym q) ∙ name-order-total .refl-equal (getD ns i []))
 
@@ -87,11 +88,15 @@ apart f m (c ∷ cs) (d ∷ ds) p q g e =
     let s : map f cs ≡ map f ds = cc in
     cons (g c d (x .0) (y .0) r) (apart f m cs ds (x .1) (y .1) g s)
 
+-- ---- the nodes of a sound arena have names of its table
+pub named-at : (ns : List Name) (a : Arena) → sound (length ns) a ≡ true → (n : ℕ) → n < length a → Named ns (at a n)
+named-at ns a h n l = record {
+  formed-so = at-formed (length ns) a h n l;
+  inside = linked-names (length ns) n (at a n) (well-parts (length ns) n (at a n) (at-well (length ns) a h n l) .linked-so);
+}
+
 -- ---- the theorem
 module _ (t : List ℕ) (ns : List Name) (e : names-of t ≡ some ns) (a : Arena) (h : sound (length ns) a ≡ true) where
-  named-so : (n : ℕ) → n < length a → below (length ns) (names (tag (at a n))) ≡ true
-  named-so n l = linked-names (length ns) n (at a n) (well-parts (length ns) n (at a n) (at-well (length ns) a h n l) .linked-so)
-
   one-number : (p q : ℕ) → p < length a → q < length a → at a p ≡ at a q → p ≡ q
   one-number p q k l r =
       let x = at-find (length ns) a h p k in
@@ -109,8 +114,8 @@ module _ (t : List ℕ) (ns : List Name) (e : names-of t ≡ some ns) (a : Arena
       let x = below-more p m (children (at a p)) (omega arith) (children-below (length ns) a h p k) in
       let y = below-more q m (children (at a q)) (omega arith) (children-below (length ns) a h q l) in
       let f : (c d : ℕ) → c < m → d < m → tree ns a c ≡ tree ns a d → c ≡ d = λ c d u v w. apart-below m c d (omega arith) u v w in
-      one-number p q k l (encode-injective (at a p) (at a q) (at-formed (length ns) a h p k) (at-formed (length ns) a h q l)
-      (same-node t ns e (at a p) (at a q) (named-so p k) (named-so q l) (s .0) (apart (tree ns a) m (children (at a p)) (children (at a q)) x y f (s .1))))
+      one-number p q k l (encode-injective (at a p) (at a q) (named-at ns a h p k .formed-so) (named-at ns a h q l .formed-so)
+      (same-node t ns e (at a p) (at a q) (named-at ns a h p k .inside) (named-at ns a h q l .inside) (s .0) (apart (tree ns a) m (children (at a p)) (children (at a q)) x y f (s .1))))
 
 -- two nodes with the same tree are one
 pub one-partner : OnePartner

@@ -13,8 +13,8 @@ use borrow.Author.Tests.{eqb-true, eqb-false, not-true, not-false}
 use Rattle.words.specs.Words.{child}
 use Rattle.types.specs.Fault.{children-in}
 use Rattle.types.proofs.Tests.{true-false}
-use Rattle.node_reading.specs.Nodes.{ChildWords}
-use Rattle.node_reading.proofs.Offspring.{as-many, child-is, child-small}
+use Rattle.node_store.specs.Inner.Children.{ChildWords}
+use Rattle.node_store.proofs.Offspring.{as-many, child-is, child-small}
 use Rattle.equal.specs.Inner.Pairs.{Pair, Fit, Gives, Beside, Level, GivesAll}
 
 -- ---- one pair
@@ -39,21 +39,23 @@ module _ {ps : List ℕ} {k p : ℕ} (F : Fit ps k p) where
           go (yes f) = let g = ap (λ (i : ℕ). getD (set ps k (p + 1)) i 0) f in inr (f, omega (arith, e, new, g))
           go (no f) = inl (sym (getD-set-other ps k j (p + 1) 0 f) ∙ e)
 
-  pub pair-new : {i : ℕ} → i ≡ k → getD ps i 0 ≡ 0 → Gives ps k p (set ps i (p + 1)) true
-  pair-new {i} e z = subst (λ (j : ℕ). Gives ps k p (set ps j (p + 1)) true) (sym e) (new-at (ap (λ (j : ℕ). getD ps j 0) (sym e) ∙ z))
+  -- what the entry says, and the number that is given, as they are read
+  module _ {i t x : ℕ} (e : i ≡ k) (r : t ≡ getD ps i 0) (n : x ≡ p) where
+    pub pair-new : t ≡ 0 → Gives ps k p (set ps i (x + 1)) true
+    pair-new z = subst (λ (j : ℕ). Gives ps k p (set ps i (j + 1)) true) (sym n) (subst (λ (j : ℕ). Gives ps k p (set ps j (p + 1)) true) (sym e) (new-at (ap (λ (j : ℕ). getD ps j 0) (sym e) ∙ sym r ∙ z)))
 
-  pub pair-told : {i : ℕ} → i ≡ k → (getD ps i 0 ≡ 0 → ⊥) → Gives ps k p ps (eqb (getD ps i 0) (p + 1))
-  pair-told {i} e f =
-      let at : getD ps i 0 ≡ getD ps k 0 = ap (λ (j : ℕ). getD ps j 0) e in
-      record {
-        long = refl;
-        kept = λ j q h. h;
-        only = λ j q h. inl h;
-        given = λ h. sym at ∙ eqb-true (getD ps i 0) (p + 1) h;
-        other = λ h.
-            let g : getD ps i 0 ≡ p + 1 → ⊥ = eqb-false (getD ps i 0) (p + 1) h in
-            record { partner = getD ps i 0 - 1; there = omega (arith, at, f); differs = λ q. g (omega (arith, f, q)) };
-      }
+    pub pair-told : (t ≡ 0 → ⊥) → Gives ps k p ps (eqb t (x + 1))
+    pair-told f =
+        let at : t ≡ getD ps k 0 = r ∙ ap (λ (j : ℕ). getD ps j 0) e in
+        record {
+          long = refl;
+          kept = λ j q h. h;
+          only = λ j q h. inl h;
+          given = λ h. omega (arith, at, n, eqb-true t (x + 1) h);
+          other = λ h.
+              let g : t ≡ x + 1 → ⊥ = eqb-false t (x + 1) h in
+              record { partner = t - 1; there = omega (arith, at, f); differs = λ q. g (omega (arith, f, q, n)) };
+        }
 
 -- ---- the pairs of children
 pub record Giving (v w bs cs ps qs : List ℕ) (i : ℕ) : Type 0 where

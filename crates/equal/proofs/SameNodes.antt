@@ -3,7 +3,6 @@ use Prim.Native.Nat.{ℕ, suc, _+_, _-_, _<_, _≤_}
 use mathlib.Core.Path.{_≡_, refl, sym, ap, ap₂, _∙_}
 use mathlib.Core.Bool.{Bool, true, false}
 use mathlib.Core.List.{List, [], map}
-use mathlib.Core.Option.{some}
 use native.Mathlib.Omega.{arith}
 use lib.ListN.{length, getD, take, drop, length-drop}
 use lib.Seq.{length-take-le}
@@ -12,15 +11,17 @@ use borrow.Author.Tests.{eqb-true, eq-eqb}
 use Rattle.words.specs.Words.{head-word, head-kind, head-open, head-dynamic}
 use Rattle.types.specs.Same.{same}
 use Rattle.types.specs.Kind.{disc}
-use Rattle.types.specs.Node.{Node, node, tag, children, kind, data-of, body, head-of, encode, formed, field-of}
+use Rattle.types.specs.Node.{Field, Node, node, tag, children, kind, data-of, field-names, body, head-of, encode, below, formed, field-of}
 use Rattle.types.proofs.Tests.{and-true, both, not-true, same-truth, same-true, same-if}
 use Rattle.types.proofs.Nodes.{formed-parts, encode-kind, encode-open, encode-dynamic}
 use Rattle.node_order.specs.WordsOrder.{field-count}
 use Rattle.node_order.specs.Inner.{FieldCount}
-use Rattle.names.specs.Table.{Name, names-of}
-use Rattle.equal.specs.Equal.{label, spell, label-of, label-dec, spellings-dec}
-use Rattle.equal.specs.Inner.Data.{spelt, same-spelt, same-data, SameData}
-use Rattle.equal.proofs.Labels.{plain, fielded, fields-spelt, body-length, one-word}
+use Rattle.names.specs.Table.{Name}
+use Rattle.equal.specs.Equal.{label, spell, label-of, label-dec}
+use Rattle.equal.specs.Inner.Names.{Matches}
+use Rattle.equal.specs.Inner.Data.{same-fields, same-data, Named, SameData}
+use Rattle.equal.proofs.Labels.{plain, fielded, body-length, one-word}
+use Rattle.equal.proofs.Fields.{fields-spelt, spelt-fields}
 
 -- ---- what the test says
 pub record Alike (ns ms : List Name) (x y : Node) : Type 0 where
@@ -70,15 +71,15 @@ encode-own : (x : Node) → getD (encode x) 1 0 ≡ getD (body x) 0 0
 unfolding encode
 encode-own x = refl
 
-module _ (t v u w : List ℕ) where
-  pub lengths-differ : (length v ≡ length w → ⊥) → SameData t v u w false
+module _ (ks v w : List ℕ) where
+  pub lengths-differ : (length v ≡ length w → ⊥) → SameData ks v w false
   lengths-differ f = record {
-    is = λ ns ms x y p q g h c d. sym (not-true (same-data ns x ms y) (λ e. f (ap length c ∙ encode-length x ∙ ap suc (same-lengths ns ms x y (data-alike ns ms x y e)) ∙ sym (encode-length y) ∙ ap length (sym d))));
+    is = λ ns ms M x y g h c d. sym (not-true (same-data ns x ms y) (λ e. f (ap length c ∙ encode-length x ∙ ap suc (same-lengths ns ms x y (data-alike ns ms x y e)) ∙ sym (encode-length y) ∙ ap length (sym d))));
   }
 
-  pub heads-differ : (getD v 0 0 ≡ getD w 0 0 → ⊥) → SameData t v u w false
+  pub heads-differ : (getD v 0 0 ≡ getD w 0 0 → ⊥) → SameData ks v w false
   heads-differ f = record {
-    is = λ ns ms x y p q g h c d.
+    is = λ ns ms M x y g h c d.
         sym (not-true (same-data ns x ms y) (λ e.
         f (ap (λ (l : List ℕ). getD l 0 0) c ∙ encode-head x ∙ same-heads ns ms x y (data-alike ns ms x y e) ∙ sym (encode-head y) ∙ ap (λ (l : List ℕ). getD l 0 0) (sym d))));
   }
@@ -102,20 +103,21 @@ plain-alike ns ms (node t cs) (node u ds) p q k h l =
     eq-eqb _ _ (ap (λ (d : List ℕ). getD d 0 0) b))
 
 -- ---- from kind 4 on
-fields-alike : (t u : List ℕ) (ns ms : List Name) → names-of t ≡ some ns → names-of u ≡ some ms → (x y : Node) → formed x ≡ true → formed y ≡ true → disc (kind (tag x)) ≡ disc (kind (tag y)) → data-of (tag x) .dynamic ≡ data-of (tag y) .dynamic → data-of (tag x) .opened ≡ data-of (tag y) .opened
+fields-alike : (ns ms : List Name) (ks : List ℕ) → Matches ns ms ks → (x y : Node) → Named ns x → Named ms y → disc (kind (tag x)) ≡ disc (kind (tag y)) → data-of (tag x) .dynamic ≡ data-of (tag y) .dynamic → data-of (tag x) .opened ≡ data-of (tag y) .opened
     → 4 ≤ disc (kind (tag x)) → length (body x) ≡ length (body y) → (m : ℕ) → m ≡ field-count (disc (kind (tag x))) (data-of (tag x) .dynamic) (length (body x))
-    → same-spelt t (take m (body x)) u (take m (body y)) ≡ same-data ns x ms y
-unfolding same-spelt
-fields-alike t u ns ms a c (node v cs) (node w ds) p q k d o h l m e =
-    let P = fielded v cs (formed-parts v cs p) h in
-    let Q = fielded w ds (formed-parts w ds q) (omega (arith, k, h)) in
-    let f : map (spell ns) (data-of v .fields) ≡ map (spelt t) (take m (body (node v cs)))
-    = ap (map (spell ns)) (P .fields ∙ ap (λ (i : ℕ). map field-of (take i (body (node v cs)))) (sym e)) ∙ fields-spelt t ns a (take m (body (node v cs))) in
-    let g : map (spell ms) (data-of w .fields) ≡ map (spelt u) (take m (body (node w ds)))
-    = ap (map (spell ms)) (Q .fields ∙ ap (λ (i : ℕ). map field-of (take i (body (node w ds)))) (sym (e ∙ (λ i. field-count (k i) (d i) (l i))))) ∙ fields-spelt u ms c (take m (body (node w ds))) in
+    → same-fields ks (take m (body x)) (take m (body y)) ≡ same-data ns x ms y
+fields-alike ns ms ks M (node v cs) (node w ds) p q k d o h l m e =
+    let P = fielded v cs (formed-parts v cs (p .formed-so)) h in
+    let Q = fielded w ds (formed-parts w ds (q .formed-so)) (omega (arith, k, h)) in
+    let f : data-of v .fields ≡ map field-of (take m (body (node v cs)))
+    = P .fields ∙ ap (λ (i : ℕ). map field-of (take i (body (node v cs)))) (sym e) in
+    let g : data-of w .fields ≡ map field-of (take m (body (node w ds)))
+    = Q .fields ∙ ap (λ (i : ℕ). map field-of (take i (body (node w ds)))) (sym (e ∙ (λ i. field-count (k i) (d i) (l i)))) in
+    let a = ap (λ (z : List Field). below (length ns) (field-names z)) (sym f) ∙ p .inside in
+    let b = ap (λ (z : List Field). below (length ms) (field-names z)) (sym g) ∙ q .inside in
     same-truth _ _
     (λ r.
-    let s = f ∙ same-true spellings-dec _ _ r ∙ sym g in
+    let s = ap (map (spell ns)) f ∙ fields-spelt M _ _ a b r ∙ ap (map (spell ms)) (sym g) in
     let n : data-of v .numbers ≡ data-of w .numbers = P .numberless ∙ sym (Q .numberless) in
     let bv = body-length v cs in
     let bw = body-length w ds in
@@ -126,10 +128,10 @@ fields-alike t u ns ms a c (node v cs) (node w ds) p q k d o h l m e =
     let A = data-alike ns ms (node v cs) (node w ds) r in
     let z = A .labels in
     let s : map (spell ns) (data-of v .fields) ≡ map (spell ms) (data-of w .fields) = cc in
-    same-if spellings-dec _ _ (sym f ∙ s ∙ g))
+    spelt-fields M _ _ a b (ap (map (spell ns)) (sym f) ∙ s ∙ ap (map (spell ms)) g))
 
 -- ---- under equal heads
-module _ (t v u w : List ℕ) (long : length v ≡ length w) (heads : getD v 0 0 ≡ getD w 0 0) where
+module _ (ks v w : List ℕ) (long : length v ≡ length w) (heads : getD v 0 0 ≡ getD w 0 0) where
   -- what equal heads say of the nodes
   record Headed (x y : Node) : Type 0 where
     kinds : disc (kind (tag x)) ≡ disc (kind (tag y))
@@ -153,19 +155,19 @@ module _ (t v u w : List ℕ) (long : length v ≡ length w) (heads : getD v 0 0
   kind-there x e g c = e ∙ ap (λ (l : List ℕ). head-kind (getD l 0 0)) c ∙ ap head-kind (encode-head x) ∙ encode-kind x g
 
   module _ {k : ℕ} (e : k ≡ head-kind (getD v 0 0)) where
-    pub own-told : k < 4 → {i j : ℕ} → i ≡ getD v 1 0 → j ≡ getD w 1 0 → SameData t v u w (eqb i j)
+    pub own-told : k < 4 → {i j : ℕ} → i ≡ getD v 1 0 → j ≡ getD w 1 0 → SameData ks v w (eqb i j)
     own-told l {i} {j} p q = record {
-      is = λ ns ms x y a b g h c d.
-          let H = headed x y g h c d in
+      is = λ ns ms M x y g h c d.
+          let H = headed x y (g .formed-so) (h .formed-so) c d in
           let r : i ≡ getD (body x) 0 0 = p ∙ ap (λ (z : List ℕ). getD z 1 0) c ∙ encode-own x in
           let s : j ≡ getD (body y) 0 0 = q ∙ ap (λ (z : List ℕ). getD z 1 0) d ∙ encode-own y in
-          ap₂ eqb r s ∙ plain-alike ns ms x y g h (H .kinds) (omega (arith, l, kind-there x e g c)) (H .lengths);
+          ap₂ eqb r s ∙ plain-alike ns ms x y (g .formed-so) (h .formed-so) (H .kinds) (omega (arith, l, kind-there x e (g .formed-so) c)) (H .lengths);
     }
 
-    pub fields-told : 4 ≤ k → {m : ℕ} → FieldCount (getD v 0 0) (length v - 1) m → {r : Bool} → r ≡ same-spelt t (take (m + 1 - 1) (drop 1 v)) u (take (m + 1 - 1) (drop 1 w)) → SameData t v u w r
+    pub fields-told : 4 ≤ k → {m : ℕ} → FieldCount (getD v 0 0) (length v - 1) m → {r : Bool} → r ≡ same-fields ks (take (m + 1 - 1) (drop 1 v)) (take (m + 1 - 1) (drop 1 w)) → SameData ks v w r
     fields-told l {m} F {r} q = record {
-      is = λ ns ms x y a b g h c d.
-          let H = headed x y g h c d in
+      is = λ ns ms M x y g h c d.
+          let H = headed x y (g .formed-so) (h .formed-so) c d in
           let one : m + 1 - 1 ≡ m = omega arith in
           let bx : drop 1 v ≡ body x = ap (drop 1) c ∙ encode-body x in
           let by : drop 1 w ≡ body y = ap (drop 1) d ∙ encode-body y in
@@ -173,9 +175,9 @@ module _ (t v u w : List ℕ) (long : length v ≡ length w) (heads : getD v 0 0
           let n : length v - 1 ≡ length (body x) = omega (arith, lx) in
           let hx : getD v 0 0 ≡ head-of x = ap (λ (z : List ℕ). getD z 0 0) c ∙ encode-head x in
           let f : m ≡ field-count (disc (kind (tag x))) (data-of (tag x) .dynamic) (length (body x))
-          = F .value ∙ ap₂ (λ (z i : ℕ). field-count (head-kind z) (head-dynamic z) i) hx n ∙ (λ i. field-count (encode-kind x g i) (encode-dynamic x g i) (length (body x))) in
-          q ∙ (λ i. same-spelt t (take (one i) (bx i)) u (take (one i) (by i)))
-          ∙ fields-alike t u ns ms a b x y g h (H .kinds) (H .dynamics) (H .opens) (omega (arith, l, kind-there x e g c)) (H .lengths) m f;
+          = F .value ∙ ap₂ (λ (z i : ℕ). field-count (head-kind z) (head-dynamic z) i) hx n ∙ (λ i. field-count (encode-kind x (g .formed-so) i) (encode-dynamic x (g .formed-so) i) (length (body x))) in
+          q ∙ (λ i. same-fields ks (take (one i) (bx i)) (take (one i) (by i)))
+          ∙ fields-alike ns ms ks M x y g h (H .kinds) (H .dynamics) (H .opens) (omega (arith, l, kind-there x e (g .formed-so) c)) (H .lengths) m f;
     }
 
   module _ {m : ℕ} (F : FieldCount (getD v 0 0) (length v - 1) m) (some-word : 0 < length v) where

@@ -1,5 +1,6 @@
-// Structural equality of two types in two arenas, names by text: `node_data` compares what two nodes carry besides their
-// children, `pairs` pairs the nodes that must be equal.
+// Structural equality of two types in two arenas, names by text: `matching` finds which names of the two tables are one,
+// `node_data` compares what two nodes carry besides their children, `pairs` pairs the nodes that must be equal.
+mod matching;
 mod node_data;
 mod pairs;
 

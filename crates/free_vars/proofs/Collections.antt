@@ -22,7 +22,7 @@ use Rattle.node_order.proofs.Splits.{body-lent}
 use Rattle.bits.specs.Bits.{has, Put}
 use Rattle.bits.specs.Inner.{Row}
 use Rattle.node_store.specs.Inner.Stored.{InRange, NodeAt}
-use Rattle.node_reading.specs.Nodes.{ChildWords}
+use Rattle.node_store.specs.Inner.Children.{ChildWords}
 use Rattle.free_vars.specs.FreeVars.{occurrences, add-all}
 use Rattle.free_vars.specs.Inner.{VarNode, Listing, VarRoom, AddsVar, Collecting, Collects}
 use Rattle.free_vars.proofs.FirstCopies.{add-has, add-within, add-append}

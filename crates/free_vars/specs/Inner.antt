@@ -1,9 +1,10 @@
--- What the walk that collects the variables asks and answers.
+-- What the walk that collects the variables asks and answers, and what is left where they are lent.
 use Prim.Native.Nat.{ℕ, _+_, _<_}
 use mathlib.Core.Path.{_≡_}
 use mathlib.Core.Bool.{true}
 use mathlib.Core.List.{List}
 use lib.ListN.{length, getD, set}
+use Rattle.types.specs.Out.{Out, ok, refuse}
 use Rattle.types.specs.Node.{var, tag}
 use Rattle.types.specs.Arena.{Arena, at}
 use Rattle.types.specs.Memory.{padded, Holds}
@@ -12,8 +13,10 @@ use Rattle.bits.specs.Bits.{has, Put}
 use Rattle.bits.specs.Inner.{Row}
 use Rattle.node_store.specs.Inner.Stored.{Lent}
 use Rattle.walks.specs.Asked.{asking}
-use Rattle.free_vars.specs.FreeVars.{occurrences, contains, add-all, distinct, free-list, answered}
-use Rattle.free_vars.specs.declared.FreeVars.{FreeVars}
+use Rattle.free_vars.specs.FreeVars.{occurrences, contains, add-all, distinct, free-list}
+use Rattle.free_vars.specs.declared.VarList.{VarList}
+use Rattle.free_vars.specs.declared.Listed.{Listed}
+use Rattle.free_vars.specs.declared.Listed.the-variants as listed
 
 -- the list has every variable of node n
 abbrev pub Complete : Arena → List ℕ → ℕ → Type 0
@@ -65,6 +68,16 @@ pub record Collects (w s : List ℕ) (c : Counters) (n : ℕ) (done vars : List 
   pub is : (table : ℕ) (a : Arena) → Holds table w s c a → (l : List ℕ) → Listing a done vars count l
       → Listing a done′ vars′ count′ (add-all l (occurrences a n))
 
--- r is the answer that follows 1 and 2, in any arena that memory holds
-pub record AnswersIn (w s : List ℕ) (c : Counters) (root : ℕ) (r : FreeVars) : Type 0 where
-  pub is : (table : ℕ) (a : Arena) → Holds table w s c a → r ≡ answered (asking free-list root a)
+-- the enum's cases, with the array that is lent: the variables listed there; the number of a refusal
+abbrev pub lent-out : Listed → List ℕ → Out VarList
+lent-out (listed.Count n) vars = ok (record { vars = vars; count = n })
+lent-out (listed.Refused e) vars = refuse e
+
+-- they say o, and a refusal leaves the array
+pub record Lists (o : Out VarList) (vars vars′ : List ℕ) (r : Listed) : Type 0 where
+  pub is : lent-out r vars′ ≡ o
+  pub kept : (e : ℕ) → r ≡ listed.Refused e → vars′ ≡ vars
+
+-- they say what follows 1 and 2, in any arena that memory holds
+pub record ListsIn (w s : List ℕ) (c : Counters) (root : ℕ) (vars vars′ : List ℕ) (r : Listed) : Type 0 where
+  pub is : (table : ℕ) (a : Arena) → Holds table w s c a → Lists (asking free-list root a) vars vars′ r

@@ -1,7 +1,7 @@
 // The variables of a type, in the order in which a walk first meets them. Memory is only read.
 use bits::put;
 use bits::test;
-use node_reading::children::child_words;
+use node_store::children::child_words;
 use node_store::stored::node_at;
 use soundness::Judged;
 use soundness::judge;
@@ -10,12 +10,13 @@ use types::arc_ty::Head;
 use types::arc_ty::child;
 use types::arc_ty::wide;
 ghost use mathlib.Core.Path.{_≡_};
-ghost use Rattle.types.specs.Out.{refuse};
+ghost use mathlib.Core.List.{[]};
+ghost use Rattle.types.specs.Memory.{padded};
 ghost use Rattle.node_store.specs.Inner.Stored.{Lent, InRange};
 ghost use Rattle.walks.specs.Asked.{ask-reply};
 ghost use Rattle.walks.specs.Inner.Asked.{Says};
 ghost use Rattle.free_vars.specs.FreeVars.{free-list, answered};
-ghost use Rattle.free_vars.specs.Inner.{AnswersIn, VarRoom, AddsVar, Collecting, Collects};
+ghost use Rattle.free_vars.specs.Inner.{VarRoom, AddsVar, Collecting, Collects, Lists, ListsIn};
 
 // Variables in the order of their first visit, and how many there are; zeros after them.
 pub struct VarList {
@@ -30,10 +31,16 @@ pub enum Answer {
 }
 
 // The answer and its list. The list stands beside the enum, since functions on an enum that holds an array are proved by hand;
-// of a refusal it is empty.
+// of a refusal it is empty. Whoever has a place for the list calls `list_free_type_vars`, which moves nothing.
 pub struct FreeVars {
     pub answer: Answer,
     pub list: VarList,
+}
+
+// How many variables are listed where they are lent, or the number of a refusal.
+pub enum Listed {
+    Count(usize),
+    Refused(u32),
 }
 
 // Lists the variable in a node's body behind the others, and marks the node.
@@ -88,40 +95,57 @@ fn collect(
     total
 }
 
-// The variables of the type of a node.
-pub fn list_vars(words: &[u32], starts: &[u32], c: Counters, n: u32) -> VarList
+// Lists the variables of the type of a node in an array of zeros, and says how many there are.
+pub fn list_vars(
+    words: &[u32],
+    starts: &[u32],
+    c: Counters,
+    n: u32,
+    vars: &mut [u32; 4096],
+) -> usize
     requires { ⌜ InRange (now words) (now starts) c n ⌝ }
-    ensures { λ r. ⌜ Says free-list (now (words .entry)) (now (starts .entry)) c n r ⌝ }
+    requires { ⌜ now vars ≡ padded 4096 [] ⌝ }
+    ensures { λ r. ⌜ Says free-list (now (words .entry)) (now (starts .entry)) c n record { vars = now (vars .exit); count = r } ⌝ }
 {
     let mut done = [0u64; 64];
-    let mut vars = [0u32; 4096];
-    let count = collect(words, starts, c, n, &mut done, &mut vars, 0);
-    VarList { vars, count }
-}
-
-// The answer of a refused call.
-fn refused(number: u32) -> FreeVars
-    ensures { λ r. ⌜ r ≡ answered (refuse number) ⌝ }
-{
-    let answer = Answer::Refused(number);
-    let list = VarList {
-        vars: [0u32; 4096],
-        count: 0,
-    };
-    FreeVars { answer, list }
+    collect(words, starts, c, n, &mut done, vars, 0)
 }
 
 // The variables of the type of the root, in an arena that is known to be sound.
-fn free_type_vars_in(words: &[u32], starts: &[u32], c: Counters, root: u32) -> FreeVars
+fn list_root(
+    words: &[u32],
+    starts: &[u32],
+    c: Counters,
+    root: u32,
+    vars: &mut [u32; 4096],
+) -> Listed
     requires { ⌜ Lent (now words) (now starts) c ⌝ }
-    ensures { λ r. ⌜ AnswersIn (now (words .entry)) (now (starts .entry)) c root r ⌝ }
+    ensures { λ r. ⌜ ListsIn (now (words .entry)) (now (starts .entry)) c root (now (vars .entry)) (now (vars .exit)) r ⌝ }
 {
     if wide(root) >= c.nodes {
-        return refused(6);
+        return Listed::Refused(6);
     }
-    let answer = Answer::Listed;
-    let list = list_vars(words, starts, c, root);
-    FreeVars { answer, list }
+    *vars = [0u32; 4096];
+    Listed::Count(list_vars(words, starts, c, root, vars))
+}
+
+// The variables of the type of the root, where they are lent; a refusal leaves what is there.
+pub fn list_free_type_vars(
+    table: &[u8],
+    words: &[u32],
+    starts: &[u32],
+    c: Counters,
+    root: u32,
+    vars: &mut [u32; 4096],
+) -> Listed
+    ensures { λ r. ⌜ Lists (ask-reply free-list (now (table .entry)) (now (words .entry)) (now (starts .entry)) c root)
+        (now (vars .entry)) (now (vars .exit)) r ⌝ }
+{
+    let lent = judge(table, words, starts, c);
+    match lent {
+        Judged::Names(count) => list_root(words, starts, c, root, vars),
+        Judged::Refused(number) => Listed::Refused(number),
+    }
 }
 
 // The variables of the type of the root.
@@ -134,9 +158,16 @@ pub fn free_type_vars(
 ) -> FreeVars
     ensures { λ r. ⌜ r ≡ answered (ask-reply free-list (now (table .entry)) (now (words .entry)) (now (starts .entry)) c root) ⌝ }
 {
-    let lent = judge(table, words, starts, c);
-    match lent {
-        Judged::Names(count) => free_type_vars_in(words, starts, c, root),
-        Judged::Refused(number) => refused(number),
+    let mut vars = [0u32; 4096];
+    let listed = list_free_type_vars(table, words, starts, c, root, &mut vars);
+    match listed {
+        Listed::Count(count) => FreeVars {
+            answer: Answer::Listed,
+            list: VarList { vars, count },
+        },
+        Listed::Refused(number) => FreeVars {
+            answer: Answer::Refused(number),
+            list: VarList { vars, count: 0 },
+        },
     }
 }

@@ -2,8 +2,8 @@
 // call of that name and tells the answer as a number, 0 or that of a refusal. A result is written where it is lent; a refusal
 // writes none.
 use equal::structurally_eq;
-use free_vars::Answer;
-use free_vars::free_type_vars;
+use free_vars::Listed;
+use free_vars::list_free_type_vars;
 use questions::lambdas::has_shared_tyvar_across_lambda_params;
 use questions::named::Unwrapped;
 use questions::named::unwrap_named;
@@ -207,16 +207,14 @@ pub extern "C" fn lang_ty_free_type_vars(
         (now (words .entry)) (now (starts .entry)) record { nodes = nodes; words = used } root) ⌝ }
 {
     let c = Counters { nodes, words: used };
-    let r = free_type_vars(table, words, starts, c, root);
-    let answer = r.answer;
-    let Answer::Refused(e) = answer else {
-        let list = r.list;
-        let listed = list.vars;
-        *vars = listed;
-        *count = list.count;
-        return 0;
-    };
-    e
+    let r = list_free_type_vars(table, words, starts, c, root, vars);
+    match r {
+        Listed::Count(listed) => {
+            *count = listed;
+            0
+        }
+        Listed::Refused(e) => e,
+    }
 }
 
 // Whether two types, each in an arena of its own, are structurally equal.

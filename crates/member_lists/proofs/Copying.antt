@@ -14,8 +14,8 @@ use Rattle.words.specs.Words.{child}
 use Rattle.types.specs.Fault.{children-in}
 use Rattle.types.specs.Out.{Out, ok, refuse, _>>=_}
 use Rattle.types.proofs.Tests.{not-true}
-use Rattle.node_reading.specs.Nodes.{ChildWords}
-use Rattle.node_reading.proofs.Offspring.{as-many, child-is}
+use Rattle.node_store.specs.Inner.Children.{ChildWords}
+use Rattle.node_store.proofs.Offspring.{as-many, child-is}
 use Rattle.recursion.proofs.Answers.{bind-ok}
 use Rattle.recursion.proofs.Members.{index-of, member-at}
 use Rattle.simplification.specs.Pass.{one-of, append, first-copies}

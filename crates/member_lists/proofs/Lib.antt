@@ -4,3 +4,4 @@ pub mod Splices
 pub mod Decisions
 pub mod ListNodes
 pub mod Closings
+pub mod Covering

@@ -1,7 +1,7 @@
 // A member list as it grows: its items are lent, its length goes in and comes back.
 use crate::bounds::kind_of;
 use crate::bounds::neutral;
-use node_reading::children::child_words;
+use node_store::children::child_words;
 use node_store::stored::node_at;
 use types::Counters;
 use types::arc_ty::child;

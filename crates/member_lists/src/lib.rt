@@ -6,15 +6,17 @@ use crate::bounds::deciding;
 use crate::bounds::kind_of;
 use crate::growing::Grown;
 use crate::growing::flatten;
+use node_filter::intern_near;
 use node_store::added::Interned;
-use node_store::added::intern_node;
 use types::Counters;
 use types::arc_ty::Head;
+ghost use Prim.Native.Nat.{_<_};
 ghost use mathlib.Core.Path.{_≡_};
 ghost use lib.ListN.{take};
+ghost use Rattle.node_filter.specs.Inner.Filter.{CoversLent, CoversAfter};
 ghost use Rattle.member_lists.specs.Inner.Members.{Room, Gathering, Decides, NodeWords, Listing, Filled, InternsList, Finishes};
 ghost use Rattle.member_lists.specs.Inner.Members.{ClosesOpen};
-ghost use Rattle.member_lists.specs.Inner.Closed.{Closing, Closes};
+ghost use Rattle.member_lists.specs.Inner.Closed.{Closing, Closes, CoversClosed};
 
 // A list of at most 64 node numbers with its length.
 pub struct Members {
@@ -77,29 +79,45 @@ fn node_words(head: u32, list: Members) -> [u32; 65]
     node
 }
 
-// The number of the node of a kind that has these members.
+// The number of the node of a kind that has these members. It is compared first with node `near`, the list that they came from.
 pub fn intern_list(
     words: &mut [u32],
     starts: &mut [u32],
     c: Counters,
     kind: u32,
     list: Members,
+    near: u32,
+    filter: &mut [u64; 2048],
 ) -> Interned
     requires { ⌜ Filled (now words) (now starts) c kind (list .items) (list .count) ⌝ }
+    requires { ⌜ near < c .nodes ⌝ }
+    requires { ⌜ CoversLent (now words) (now starts) c (now filter) ⌝ }
     ensures { λ r. ⌜ InternsList (now (words .entry)) (now (starts .entry)) c kind (list .items) (list .count) (now (words .exit))
         (now (starts .exit)) r ⌝ }
+    ensures { λ r. ⌜ CoversAfter (now (words .exit)) (now (starts .exit)) r (now (filter .exit)) ⌝ }
 {
     let head = Head::new(kind, false, false, list.count);
     let node = node_words(head.word, list);
     let end = list.count + 1;
-    intern_node(words, starts, c, &node[..end])
+    intern_near(words, starts, c, &node[..end], near, filter)
 }
 
 // What stands for a list of a kind: one member for itself, several as a node.
-fn finish(words: &mut [u32], starts: &mut [u32], c: Counters, kind: u32, list: Members) -> Closed
+fn finish(
+    words: &mut [u32],
+    starts: &mut [u32],
+    c: Counters,
+    kind: u32,
+    list: Members,
+    near: u32,
+    filter: &mut [u64; 2048],
+) -> Closed
     requires { ⌜ Listing (now words) (now starts) c kind (list .items) (list .count) ⌝ }
+    requires { ⌜ near < c .nodes ⌝ }
+    requires { ⌜ CoversLent (now words) (now starts) c (now filter) ⌝ }
     ensures { λ r. ⌜ Finishes (now (words .entry)) (now (starts .entry)) c kind (list .items) (list .count) (now (words .exit))
         (now (starts .exit)) r ⌝ }
+    ensures { λ r. ⌜ CoversClosed (now (words .exit)) (now (starts .exit)) c r (now (filter .exit)) ⌝ }
 {
     if list.count == 0 {
         return Closed::Empty;
@@ -107,7 +125,7 @@ fn finish(words: &mut [u32], starts: &mut [u32], c: Counters, kind: u32, list: M
     if list.count == 1 {
         return Closed::Done(Interned::Node(list.items[0], c));
     }
-    Closed::Done(intern_list(words, starts, c, kind, list))
+    Closed::Done(intern_list(words, starts, c, kind, list, near, filter))
 }
 
 // What stands for the list that the members make, if none of them decides it.
@@ -117,10 +135,15 @@ fn close_open(
     c: Counters,
     kind: u32,
     members: &[u32],
+    near: u32,
+    filter: &mut [u64; 2048],
 ) -> Closed
     requires { ⌜ Gathering (now words) (now starts) c kind (now members) ⌝ }
+    requires { ⌜ near < c .nodes ⌝ }
+    requires { ⌜ CoversLent (now words) (now starts) c (now filter) ⌝ }
     ensures { λ r. ⌜ ClosesOpen (now (words .entry)) (now (starts .entry)) c kind (now (members .entry)) (now (words .exit))
         (now (starts .exit)) r ⌝ }
+    ensures { λ r. ⌜ CoversClosed (now (words .exit)) (now (starts .exit)) c r (now (filter .exit)) ⌝ }
 {
     let mut list = Members {
         items: [0u32; 64],
@@ -131,7 +154,7 @@ fn close_open(
         return Closed::Done(Interned::Refused(8));
     };
     list.count = count;
-    finish(words, starts, c, kind, list)
+    finish(words, starts, c, kind, list, near, filter)
 }
 
 // What becomes of a member list of a kind: a member that decides it; else its members, spliced one level, without the neutral
@@ -144,10 +167,15 @@ pub fn close_list(
     kind: u32,
     items: &[u32; 65],
     count: usize,
+    near: u32,
+    filter: &mut [u64; 2048],
 ) -> Closed
     requires { ⌜ Closing (now words) (now starts) c kind (now items) count ⌝ }
+    requires { ⌜ near < c .nodes ⌝ }
+    requires { ⌜ CoversLent (now words) (now starts) c (now filter) ⌝ }
     ensures { λ r. ⌜ Closes (now (words .entry)) (now (starts .entry)) c kind (now (items .entry)) count (now (words .exit))
         (now (starts .exit)) r ⌝ }
+    ensures { λ r. ⌜ CoversClosed (now (words .exit)) (now (starts .exit)) c r (now (filter .exit)) ⌝ }
 {
     let members = first_items(items, count);
     let decided = decider(words, starts, c, kind, members);
@@ -155,7 +183,7 @@ pub fn close_list(
         return Closed::Done(Interned::Node(n, c));
     }
     if kind == Head::UNION {
-        return close_open(words, starts, c, Head::UNION, members);
+        return close_open(words, starts, c, Head::UNION, members, near, filter);
     }
-    close_open(words, starts, c, Head::INTERSECTION, members)
+    close_open(words, starts, c, Head::INTERSECTION, members, near, filter)
 }

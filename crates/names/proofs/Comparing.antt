@@ -1,5 +1,5 @@
 -- Two names are compared byte by byte: those passed are equal, so the rests decide.
-use Prim.Native.Nat.{ℕ, suc, _+_, _<_, _≤_}
+use Prim.Native.Nat.{ℕ, suc, _+_, _<_, _≤_, min}
 use mathlib.Core.Path.{_≡_, refl, sym, ap, ap₂, _∙_}
 use native.Mathlib.Omega.{arith}
 use native.Mathlib.Numerals.{add-one}
@@ -29,30 +29,31 @@ module _ {a b : Name} where
     told : {o : Ordering} → i < length a → i < length b → order (getD a i 0) (getD b i 0) ≡ o → name-order a b ≡ ordering-then o (name-order (drop (suc i) a) (drop (suc i) b))
     told h k e = next h k ∙ ap (λ (w : Ordering). ordering-then w (name-order (drop (suc i) a) (drop (suc i) b))) e
 
-    pub level-less : i < length a → i < length b → getD a i 0 < getD b i 0 → Less ≡ name-order a b
+    pub level-less : {c : ℕ} → c ≡ min (length a) (length b) → i < c → getD a i 0 < getD b i 0 → Less ≡ name-order a b
     unfolding ordering-then
-    level-less h k l = sym (told h k (order-less _ _ l))
+    level-less e h l = sym (told (omega (arith, e, h)) (omega (arith, e, h)) (order-less _ _ l))
 
-    pub level-greater : i < length a → i < length b → getD b i 0 < getD a i 0 → Greater ≡ name-order a b
+    pub level-greater : {c : ℕ} → c ≡ min (length a) (length b) → i < c → (getD a i 0 ≡ getD b i 0 → ⊥) → getD b i 0 ≤ getD a i 0 → Greater ≡ name-order a b
     unfolding ordering-then
-    level-greater h k l = sym (told h k (order-greater _ _ l))
+    level-greater e h f l = sym (told (omega (arith, e, h)) (omega (arith, e, h)) (order-greater _ _ (omega (arith, f, l))))
 
-    pub level-more : i < length a → i < length b → getD b i 0 ≤ getD a i 0 → getD a i 0 ≤ getD b i 0 → Level a b (i + 1)
+    pub level-more : {c : ℕ} → c ≡ min (length a) (length b) → i < c → getD a i 0 ≡ getD b i 0 → Level a b (i + 1)
     unfolding ordering-then
-    level-more h k l m = record {
-      high = omega arith;
-      other = omega arith;
-      rest = told h k (order-equal _ _ (omega arith)) ∙ rw add-one;
+    level-more e h l = record {
+      high = omega (arith, e, h);
+      other = omega (arith, e, h);
+      rest = told (omega (arith, e, h)) (omega (arith, e, h)) (order-equal _ _ l) ∙ rw add-one;
     }
 
-    pub level-longer : i < length a → length b ≤ i → Greater ≡ name-order a b
+    pub level-shorter : {c : ℕ} → c ≡ min (length a) (length b) → c ≤ i → i < length b → Less ≡ name-order a b
     unfolding name-order
-    level-longer h k = sym (L .rest ∙ ap₂ name-order (drop-cons a i 0 h) (drop-of-length-le b k))
+    level-shorter e h k = sym (L .rest ∙ ap₂ name-order (drop-of-length-le a {i = i} (omega (arith, e, h, k))) (drop-cons b i 0 k))
 
-    pub level-shorter : length a ≤ i → i < length b → Less ≡ name-order a b
-    unfolding name-order
-    level-shorter h k = sym (L .rest ∙ ap₂ name-order (drop-of-length-le a h) (drop-cons b i 0 k))
+    module _ (k : length b ≤ i) where
+      pub level-longer : i < length a → Greater ≡ name-order a b
+      unfolding name-order
+      level-longer h = sym (L .rest ∙ ap₂ name-order (drop-cons a i 0 h) (drop-of-length-le b k))
 
-    pub level-done : length a ≤ i → length b ≤ i → Equal ≡ name-order a b
-    unfolding name-order
-    level-done h k = sym (L .rest ∙ ap₂ name-order (drop-of-length-le a h) (drop-of-length-le b k))
+      pub level-done : length a ≤ i → Equal ≡ name-order a b
+      unfolding name-order
+      level-done h = sym (L .rest ∙ ap₂ name-order (drop-of-length-le a h) (drop-of-length-le b k))

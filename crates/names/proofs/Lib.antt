@@ -3,7 +3,7 @@ pub mod Tables
 pub mod Replies
 pub mod Rules
 pub mod Numbers
-pub mod Spelling
+pub mod OddBytes
 pub mod Following
 pub mod Walking
 pub mod Checking

@@ -33,7 +33,7 @@ pub split-nil : split [] ≡ []
 unfolding split
 split-nil = refl
 
-split-table : (ns : List Name) → split (table ns) ≡ ns
+pub split-table : (ns : List Name) → split (table ns) ≡ ns
 unfolding table
 split-table [] = split-nil
 split-table (n ∷ ns) =

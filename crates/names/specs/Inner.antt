@@ -1,10 +1,29 @@
--- What a step of a walk through a table answers.
+-- What a step of a walk through a table answers, and how its bytes are judged.
 use Prim.Native.Nat.{ℕ, _+_, _<_, _≤_, min}
 use mathlib.Core.Path.{_≡_}
-use mathlib.Core.List.{List}
+use mathlib.Core.Bool.{Bool, _||_, _&&_}
+use mathlib.Core.List.{List, [], _∷_}
 use lib.ListN.{length, getD, take, drop}
-use Rattle.names.specs.Table.{table, split, name-text}
+use lib.Dec.{ltb, leb, eqb}
+use Rattle.words.specs.Words.{bit}
+use Rattle.types.specs.Order.{is-less}
+use Rattle.names.specs.Table.{Name, name-order, table, split, name-text}
 use Rattle.names.specs.declared.Stretch.{Stretch}
+
+-- 1 for a byte that isn't one of 32 to 126, else 0
+unfoldable pub odd : ℕ → ℕ
+odd b = bit (ltb b 32 || ltb 126 b)
+
+-- how many of the bytes aren't
+unfoldable pub odd-bytes : List ℕ → ℕ
+unfolding odd
+odd-bytes [] = 0
+odd-bytes (b ∷ bs) = odd b + odd-bytes bs
+
+-- may a name with this length byte follow the last one, whatever its bytes are?
+unfoldable pub comes-next : Name → ℕ → Name → Bool
+unfolding name-order
+comes-next last b n = eqb b (length n) && (leb 1 (length n) && (leb (length n) 64 && is-less (name-order last n)))
 
 -- where the name ends whose length byte stands at this place, at the latest with the bytes
 unfoldable pub name-end : List ℕ → ℕ → ℕ

@@ -3,31 +3,43 @@
 // `name_stretch` answer, and specs/Theorems.antt that the answer is the name's text; proofs/Tables.antt, proofs/Numbers.antt and
 // proofs/Replies.antt have what a caller may know of a table, of the numbers of its names and of the check's answer.
 use types::Ordering;
+ghost use Prim.Native.Nat.{_<_, min};
 ghost use mathlib.Core.Path.{_≡_};
-ghost use Rattle.names.specs.Table.{name-order, good-name, name-text};
+ghost use lib.ListN.{length};
+ghost use Rattle.names.specs.Table.{name-order, name-text, may-follow};
 ghost use Rattle.names.specs.Reply.{table-reply, table-out, name-reply, placed-out};
-ghost use Rattle.names.specs.Inner.{name-end, Lies};
-ghost use Rattle.names.specs.Table.{may-follow};
+ghost use Rattle.names.specs.Inner.{odd, odd-bytes, comes-next, name-end, Lies};
+
+// The lesser of two counts.
+fn lesser(m: usize, n: usize) -> usize
+    ensures { λ r. ⌜ r ≡ min m n ⌝ }
+{
+    if m < n {
+        return m;
+    }
+    n
+}
 
 // How two names stand, which may be of different tables.
 pub fn compare(a: &[u8], b: &[u8]) -> Ordering
     ensures { λ r. ⌜ r ≡ name-order (now (a .entry)) (now (b .entry)) ⌝ }
 {
+    let common = lesser(a.len(), b.len());
     let mut i = 0;
-    while i < a.len() {
-        if i >= b.len() {
-            return Ordering::Greater;
-        }
-        if a[i] < b[i] {
-            return Ordering::Less;
-        }
-        if a[i] > b[i] {
+    while i < common {
+        if a[i] != b[i] {
+            if a[i] < b[i] {
+                return Ordering::Less;
+            }
             return Ordering::Greater;
         }
         i += 1;
     }
     if i < b.len() {
         return Ordering::Less;
+    }
+    if i < a.len() {
+        return Ordering::Greater;
     }
     Ordering::Equal
 }
@@ -39,37 +51,38 @@ pub fn wide(x: u8) -> usize
     x as usize
 }
 
-// Whether the bytes may be a name.
-fn good_name(name: &[u8]) -> bool
-    ensures { λ r. ⌜ r ≡ good-name (now (name .entry)) ⌝ }
+// 1 for a byte that can't stand in a name, else 0.
+fn odd(byte: u8) -> u16
+    ensures { λ r. ⌜ r ≡ odd byte ⌝ }
 {
-    if name.len() < 1 {
-        return false;
-    }
-    if name.len() > 64 {
-        return false;
-    }
-    let mut i = 0;
-    while i < name.len() {
-        if name[i] < 32 {
-            return false;
-        }
-        if name[i] > 126 {
-            return false;
-        }
-        i += 1;
-    }
-    true
+    ((byte < 32) | (byte > 126)) as u16
 }
 
-// Whether a name with this length byte may follow the last one.
-pub fn follows(last: &[u8], length: u8, name: &[u8]) -> bool
-    ensures { λ r. ⌜ r ≡ may-follow (now (last .entry)) length (now (name .entry)) ⌝ }
+// How many of the bytes can't stand in a name. No byte ends the loop early, so that it takes many in a turn.
+fn count_odd(bytes: &[u8]) -> u16
+    requires { ⌜ length (now bytes) < 65536 ⌝ }
+    ensures { λ r. ⌜ r ≡ odd-bytes (now (bytes .entry)) ⌝ }
+{
+    let mut count = 0;
+    let mut i = 0;
+    while i < bytes.len() {
+        count += odd(bytes[i]);
+        i += 1;
+    }
+    count
+}
+
+// Whether a name with this length byte may follow the last one, whatever its bytes are.
+fn comes_next(last: &[u8], length: u8, name: &[u8]) -> bool
+    ensures { λ r. ⌜ r ≡ comes-next (now (last .entry)) length (now (name .entry)) ⌝ }
 {
     if wide(length) != name.len() {
         return false;
     }
-    if !good_name(name) {
+    if name.len() < 1 {
+        return false;
+    }
+    if name.len() > 64 {
         return false;
     }
     let order = compare(last, name);
@@ -80,8 +93,18 @@ pub fn follows(last: &[u8], length: u8, name: &[u8]) -> bool
     }
 }
 
+// Whether a name with this length byte may follow the last one.
+pub fn follows(last: &[u8], length: u8, name: &[u8]) -> bool
+    ensures { λ r. ⌜ r ≡ may-follow (now (last .entry)) length (now (name .entry)) ⌝ }
+{
+    if !comes_next(last, length, name) {
+        return false;
+    }
+    count_odd(name) == 0
+}
+
 // Where the name ends whose length byte stands at `at`, at the latest with the table.
-fn end_of(table: &[u8], at: usize) -> usize
+pub fn end_of(table: &[u8], at: usize) -> usize
     ensures { λ r. ⌜ r ≡ name-end (now (table .entry)) at ⌝ }
 {
     if at >= table.len() {
@@ -102,25 +125,31 @@ pub enum Table {
 }
 
 // How many names the table has; 1 where it breaks a rule. The last name read is `table[from..at]`: at first that is the empty
-// text, which any good name may follow.
+// text, which any good name may follow. The bytes of the names are judged at the end, all at once: the odd bytes of a table are
+// those of its length bytes that are odd, and no others.
 pub fn check_names(table: &[u8]) -> Table
     ensures { λ r. ⌜ table-out r ≡ table-reply (now (table .entry)) ⌝ }
 {
     let mut from = 0;
     let mut at = 0;
     let mut count: usize = 0;
+    let mut lengths = 0;
     while at < table.len() {
         if count >= 256 {
             return Table::Refused(1);
         }
         let start = at + 1;
         let end = end_of(table, at);
-        if !follows(&table[from..at], table[at], &table[start..end]) {
+        if !comes_next(&table[from..at], table[at], &table[start..end]) {
             return Table::Refused(1);
         }
+        lengths += odd(table[at]);
         from = start;
         at = end;
         count += 1;
+    }
+    if count_odd(table) != lengths {
+        return Table::Refused(1);
     }
     Table::Names(count)
 }

@@ -17,14 +17,14 @@ use Rattle.types.specs.Node.{below, rising, decode}
 use Rattle.types.specs.Fault.{head-fits, kind-body-fits, fits, kind-children, kind-names, children-in, names-in, first, fault}
 use Rattle.types.proofs.Lists.{below-by}
 use Rattle.types.proofs.Faults.{fault-decode}
-use Rattle.node_faults.specs.Inner.{body-fault, kind-fault}
+use Rattle.node_faults.specs.Inner.{body-fault, kind-fault, Clean}
 
 fault-first : (table nodes : ℕ) (ws : List ℕ) → fault table nodes ws ≡ first (fits ws) (below nodes (children-in ws) && below table (names-in ws)) (rising (names-in ws))
 unfolding fault
 fault-first table nodes ws = refl
 
 -- under a head that fits and counts the words after it, their fault is the node's
-fault-kind : (table nodes h : ℕ) (b : List ℕ) → head-fits h ≡ true → length b ≡ head-count h → fault table nodes (h ∷ b) ≡ kind-fault table nodes (kind-of (head-kind h)) (head-dynamic h) b
+pub fault-kind : (table nodes h : ℕ) (b : List ℕ) → head-fits h ≡ true → length b ≡ head-count h → fault table nodes (h ∷ b) ≡ kind-fault table nodes (kind-of (head-kind h)) (head-dynamic h) b
 unfolding fits children-in names-in kind-fault body-fault
 fault-kind table nodes h b e l = fault-first table nodes (h ∷ b) ∙ rw (e, eq-eqb (length b) (head-count h) l) (go (kind-of (head-kind h)))
   where
@@ -32,48 +32,43 @@ fault-kind table nodes h b e l = fault-first table nodes (h ∷ b) ∙ rw (e, eq
     go none = refl
     go (some j) = refl
 
+-- ---- a head and the words after it
+module _ (table nodes h : ℕ) (b : List ℕ) {f : Bool} (p : f ≡ head-fits h) where
+  pub node-head : not f ≡ true → 3 ≡ fault table nodes (h ∷ b)
+  unfolding fits
+  node-head g = sym (fault-first table nodes (h ∷ b) ∙ rw (sym p ∙ not-true f g))
+
+  module _ (g : not f ≡ false) {n : ℕ} (q : n ≡ head-count h) where
+    pub node-count : (length b ≡ n → ⊥) → 3 ≡ fault table nodes (h ∷ b)
+    unfolding fits
+    node-count c = sym (fault-first table nodes (h ∷ b) ∙ rw (sym p ∙ not-false f g, ne-eqb (length b) (head-count h) (λ e. c (e ∙ sym q))))
+
+    pub node-body : length b ≡ n → {k : ℕ} → k ≡ head-kind h → {d : Bool} → d ≡ head-dynamic h → {r : ℕ} → r ≡ kind-fault table nodes (kind-of k) d b → r ≡ fault table nodes (h ∷ b)
+    node-body c s t u = u ∙ (λ i. kind-fault table nodes (kind-of (s i)) (t i) b) ∙ sym (fault-kind table nodes h b (sym p ∙ not-false f g) (c ∙ q))
+
+-- ---- words that are to be a node
+words-split : (ws : List ℕ) → (length ws ≡ 0 → ⊥) → ws ≡ getD ws 0 0 ∷ drop 1 ws
+words-split [] f = absurd (f refl)
+words-split (h ∷ b) f = refl
+
 unfit-empty : (ws : List ℕ) → length ws ≡ 0 → fits ws ≡ false
 unfolding fits
 unfit-empty [] e = refl
 unfit-empty (h ∷ b) e = absurd (omega arith)
 
-unfit-head : (ws : List ℕ) → head-fits (getD ws 0 0) ≡ false → fits ws ≡ false
-unfolding fits
-unfit-head [] e = refl
-unfit-head (h ∷ b) e = rw e
-
-unfit-count : (ws : List ℕ) → head-fits (getD ws 0 0) ≡ true → (length (drop 1 ws) ≡ head-count (getD ws 0 0) → ⊥) → fits ws ≡ false
-unfolding fits
-unfit-count [] e f = refl
-unfit-count (h ∷ b) e f = rw (e, ne-eqb (length b) (head-count h) f)
-
-words-split : (ws : List ℕ) → (length ws ≡ 0 → ⊥) → ws ≡ getD ws 0 0 ∷ drop 1 ws
-words-split [] f = absurd (f refl)
-words-split (h ∷ b) f = refl
-
 module _ (table nodes : ℕ) (ws : List ℕ) (known : (i : ℕ) → Fits w32 (getD ws i 0)) where
   decoded : number (decode table nodes ws) ≡ fault table nodes ws
   decoded = fault-decode table nodes ws (below-by (2 ^ 32) ws (λ j l. known j .fits))
 
-  unfit : fits ws ≡ false → 3 ≡ number (decode table nodes ws)
-  unfit e = sym (decoded ∙ fault-first table nodes ws ∙ rw e)
-
   pub fault-empty : length ws ≡ 0 → 3 ≡ number (decode table nodes ws)
-  fault-empty e = unfit (unfit-empty ws e)
+  fault-empty e = sym (decoded ∙ fault-first table nodes ws ∙ rw (unfit-empty ws e))
 
-  module _ {f : Bool} (p : f ≡ head-fits (getD ws 0 0)) where
-    pub fault-head : not f ≡ true → 3 ≡ number (decode table nodes ws)
-    fault-head g = unfit (unfit-head ws (sym p ∙ not-true f g))
+  module _ (z : length ws ≡ 0 → ⊥) where
+    -- the body as the code lends it: `&node[1..]`
+    pub fault-node : {r : ℕ} → r ≡ fault table nodes (getD ws 0 0 ∷ take (length ws - 1) (drop 1 ws)) → r ≡ number (decode table nodes ws)
+    fault-node e =
+        let body : take (length ws - 1) (drop 1 ws) ≡ drop 1 ws = take-all (length ws - 1) (drop 1 ws) (omega (arith, length-drop 1 ws)) in
+        e ∙ (λ i. fault table nodes (getD ws 0 0 ∷ body i)) ∙ sym (decoded ∙ ap (fault table nodes) (words-split ws z))
 
-    module _ (g : not f ≡ false) {n : ℕ} (q : n ≡ head-count (getD ws 0 0)) where
-      -- the body as the code lends it: `&node[1..]`
-      body-is : take (length ws - 1) (drop 1 ws) ≡ drop 1 ws
-      body-is = take-all (length ws - 1) (drop 1 ws) (omega (arith, length-drop 1 ws))
-
-      pub fault-count : (length (take (length ws - 1) (drop 1 ws)) ≡ n → ⊥) → 3 ≡ number (decode table nodes ws)
-      fault-count c = unfit (unfit-count ws (sym p ∙ not-false f g) (λ e. c (ap length body-is ∙ e ∙ sym q)))
-
-      pub fault-body : (length ws ≡ 0 → ⊥) → length (take (length ws - 1) (drop 1 ws)) ≡ n → {k : ℕ} → k ≡ head-kind (getD ws 0 0) → {d : Bool} → d ≡ head-dynamic (getD ws 0 0) → {r : ℕ} → r ≡ kind-fault table nodes (kind-of k) d (take (length ws - 1) (drop 1 ws)) → r ≡ number (decode table nodes ws)
-      fault-body z c s t u =
-          u ∙ (λ i. kind-fault table nodes (kind-of (s i)) (t i) (body-is i))
-          ∙ sym (decoded ∙ ap (fault table nodes) (words-split ws z) ∙ fault-kind table nodes (getD ws 0 0) (drop 1 ws) (sym p ∙ not-false f g) (sym (ap length body-is) ∙ c ∙ q))
+    pub fault-none : {r : Bool} → Clean true (fault table nodes (getD ws 0 0 ∷ take (length ws - 1) (drop 1 ws))) r → r ≡ true → 0 ≡ number (decode table nodes ws)
+    fault-none C e = fault-node (sym (C .faultless e))

@@ -67,6 +67,10 @@ module _ (table nodes : ℕ) (b : List ℕ) {x : ℕ} (e : x ≡ getD b 0 0) {o 
   pub name-optional : o ≡ true → 3 ≡ body-fault table nodes name false b
   name-optional q = name-as q
 
+  pub name-good : o ≡ false → each-zero field-zero b ≡ true → below nodes (map child b) ≡ true → below table (map field-name b) ≡ true → rising (map field-name b) ≡ true → 0 ≡ body-fault table nodes name false b
+  unfolding each-zero
+  name-good q z l n u = sym (λ i. first (z i && true) (l i && n i) (u i)) ∙ name-as q
+
   pub name-field : o ≡ false → {r : ℕ} → r ≡ body-fault table nodes fields false b → r ≡ body-fault table nodes name false b
   unfolding body-fault body-fits children-of
   name-field q s =

@@ -6,3 +6,5 @@ pub mod Firsts
 pub mod Bodies
 pub mod KindFaults
 pub mod Answers
+pub mod Quick
+pub mod CleanBodies

@@ -1,15 +1,16 @@
 -- A loop that tests word after word: those passed meet the test, so the rest decides.
-use Prim.Native.Nat.{ℕ, _+_, _<_, _≤_}
+use Prim.Native.Nat.{ℕ, zero, suc, _+_, _<_, _≤_}
 use mathlib.Core.Path.{_≡_, refl, sym, ap, _∙_}
 use mathlib.Core.Bool.{Bool, true, false, _&&_}
 use mathlib.Core.List.{List, [], _∷_, map}
 use native.Mathlib.Numerals.{add-one}
-use lib.ListN.{length, getD, drop, drop-of-length-le}
+use lib.ListN.{length, getD, take, drop, drop-of-length-le}
 use lib.Seq.{drop-cons}
 use lib.Dec.{eqb, ltb}
 use borrow.Author.Tests.{eq-eqb, ne-eqb, lt-ltb, le-ltb}
 use Rattle.types.specs.Node.{below}
 use Rattle.types.specs.Fault.{each-zero}
+use Rattle.types.proofs.Tests.{and-true, both}
 
 -- what is asked of a field of each word: that it is 0, or below a number
 pub data Test : Type 0 where
@@ -33,6 +34,14 @@ all-cons : (t : Test) (w : ℕ) (ws : List ℕ) → all-meet t (w ∷ ws) ≡ (m
 unfolding each-zero below
 all-cons (is-zero f) w ws = refl
 all-cons (is-below n f) w ws = refl
+
+-- where both parts of a list meet a test, the list does
+pub all-join : (t : Test) (k : ℕ) (ws : List ℕ) → all-meet t (take k ws) ≡ true → all-meet t (drop k ws) ≡ true → all-meet t ws ≡ true
+all-join t zero ws p q = q
+all-join t (suc k) [] p q = q
+all-join t (suc k) (w ∷ ws) p q =
+    let r = and-true (meets t w) (all-meet t (take k ws)) (sym (all-cons t w (take k ws)) ∙ p) in
+    all-cons t w ws ∙ both (r .0) (all-join t k ws (r .1) q)
 
 pub record Passed (t : Test) (ws : List ℕ) (i : ℕ) : Type 0 where
   pub rest : all-meet t ws ≡ all-meet t (drop i ws)

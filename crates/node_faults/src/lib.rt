@@ -1,6 +1,7 @@
 // The faults of a node's words: 3 where they aren't the words of any node, 4 where a child or a name isn't there, 5 where names
 // don't rise. `head_fits` judges a head alone and `fault` a whole node, which hands the words after the head, as their own
-// stretch, to the function for what its kind has there. types' specs/Fault.antt says the faults in the order of these tests.
+// stretch, to the function for what its kind has there. types' specs/Fault.antt says the faults in the order of these tests. Most
+// nodes have none, and `clean` sees that in one pass.
 use types::arc_ty::Head;
 use types::arc_ty::child;
 use types::arc_ty::child_zero;
@@ -8,17 +9,18 @@ use types::arc_ty::wide;
 use types::attrset::field_name;
 use types::attrset::field_optional;
 use types::attrset::field_zero;
-ghost use Prim.Native.Nat.{_-_};
+ghost use Prim.Native.Nat.{_+_, _-_, _*_};
 ghost use mathlib.Core.Path.{_≡_};
-ghost use mathlib.Core.List.{map};
-ghost use mathlib.Core.Bool.{false};
-ghost use lib.ListN.{getD};
+ghost use mathlib.Core.List.{_∷_, map};
+ghost use mathlib.Core.Bool.{true, false};
+ghost use lib.ListN.{length, getD};
 ghost use Rattle.words.specs.Words.{bit, child, child-zero, field-name, field-zero};
-ghost use Rattle.types.specs.Kind.{kind-of, children, code, fields, name};
+ghost use Rattle.types.specs.Kind.{kind-of, disc, attr-set, named, children, code, fields, name};
 ghost use Rattle.types.specs.Out.{number};
 ghost use Rattle.types.specs.Node.{below, rising, decode};
-ghost use Rattle.types.specs.Fault.{head-fits, each-zero, first};
+ghost use Rattle.types.specs.Fault.{head-fits, each-zero, first, fault};
 ghost use Rattle.node_faults.specs.Inner.{within, count-fits, body-fault, kind-fault};
+ghost use Rattle.node_faults.specs.Inner.{CleanChildren, CleanFields, Clean, CleanBody};
 
 // Whether n is one of low to high.
 fn within(low: usize, high: usize, n: usize) -> bool
@@ -227,6 +229,134 @@ fn body_fault(kind: u32, dynamic: bool, body: &[u32], nodes: usize, names: usize
     }
 }
 
+// Whether each word is the number of a node, and so a child word without fault.
+fn all_below(words: &[u32], nodes: usize) -> bool
+    ensures { λ r. ⌜ CleanChildren nodes (now (words .entry)) r ⌝ }
+{
+    if nodes > 4096 {
+        return false;
+    }
+    let mut i = 0;
+    while i < words.len() {
+        if wide(words[i]) >= nodes {
+            return false;
+        }
+        i += 1;
+    }
+    true
+}
+
+// The zero field of a field word above its child, as one number: below 4,096 only where the zero field is zero.
+fn zero_and_child(word: u32) -> usize
+    ensures { λ r. ⌜ r ≡ field-zero word * 4096 + child word ⌝ }
+{
+    wide(field_zero(word) * 4096 + child(word))
+}
+
+// Whether field words have no fault, in one loop: `low` is the least number that the next name may have.
+fn fields_clean(words: &[u32], nodes: usize, names: usize) -> bool
+    ensures { λ r. ⌜ CleanFields names nodes (now (words .entry)) r ⌝ }
+{
+    if nodes > 4096 {
+        return false;
+    }
+    let mut low = 0;
+    let mut i = 0;
+    while i < words.len() {
+        let word = words[i];
+        if zero_and_child(word) >= nodes {
+            return false;
+        }
+        let name = field_name(word);
+        if name < low {
+            return false;
+        }
+        low = name + 1;
+        i += 1;
+    }
+    low <= names
+}
+
+// Whether a body is low to high child words without fault.
+fn children_clean(low: usize, high: usize, body: &[u32], nodes: usize) -> bool
+    ensures { λ r. ⌜ Clean (within low high (length (now (body .entry)))) (body-fault 0 nodes children false (now (body .entry))) r ⌝ }
+{
+    if !within(low, high, body.len()) {
+        return false;
+    }
+    all_below(body, nodes)
+}
+
+// Whether a body is a set's, without fault.
+fn set_clean(dynamic: bool, body: &[u32], nodes: usize, names: usize) -> bool
+    ensures { λ r. ⌜ CleanBody names nodes (disc attr-set) dynamic (now (body .entry)) r ⌝ }
+{
+    if !count_fits(Head::ATTR_SET, dynamic, body.len()) {
+        return false;
+    }
+    let k = field_count(dynamic, body.len());
+    fields_clean(&body[..k], nodes, names) & all_below(&body[k..], nodes)
+}
+
+// Whether a body is the one field word of a name, without fault.
+fn name_clean(body: &[u32], nodes: usize, names: usize) -> bool
+    ensures { λ r. ⌜ CleanBody names nodes (disc named) false (now (body .entry)) r ⌝ }
+{
+    if body.len() != 1 {
+        return false;
+    }
+    !field_optional(body[0]) & fields_clean(body, nodes, names)
+}
+
+// Whether a body has no fault under a head of this kind, whose flags are 0.
+fn body_clean(kind: u32, body: &[u32], nodes: usize, names: usize) -> bool
+    ensures { λ r. ⌜ CleanBody names nodes kind false (now (body .entry)) r ⌝ }
+{
+    match kind {
+        Head::BOTTOM => body.len() == 0,
+        Head::TOP => body.len() == 0,
+        Head::PRIMITIVE => (body.len() == 1) & (code_fault(body) == 0),
+        Head::TY_VAR => body.len() == 1,
+        Head::LIST => children_clean(1, 1, body, nodes),
+        Head::LAMBDA => children_clean(2, 2, body, nodes),
+        Head::UNION => children_clean(1, 64, body, nodes),
+        Head::INTERSECTION => children_clean(1, 64, body, nodes),
+        Head::NAMED => name_clean(body, nodes, names),
+        Head::NEG => children_clean(1, 1, body, nodes),
+        _ => false,
+    }
+}
+
+// Whether a node has no fault, in one pass over its words. What it is false of goes to `node_fault`.
+fn clean(head: Head, body: &[u32], nodes: usize, names: usize) -> bool
+    ensures { λ r. ⌜ Clean true (fault names nodes (head .word ∷ now (body .entry))) r ⌝ }
+{
+    let kind = head.kind();
+    let dynamic = head.dynamic();
+    let counted = (head.zero() == 0) & (head.count() == body.len());
+    if kind == Head::ATTR_SET {
+        return counted & set_clean(dynamic, body, nodes, names);
+    }
+    let plain = !head.opened() & !dynamic;
+    if !(plain & counted) {
+        return false;
+    }
+    body_clean(kind, body, nodes, names)
+}
+
+// The first fault of a head and the words after it.
+fn node_fault(head: Head, body: &[u32], nodes: usize, names: usize) -> u32
+    ensures { λ r. ⌜ r ≡ fault names nodes (head .word ∷ now (body .entry)) ⌝ }
+{
+    if !head_fits(head) {
+        return 3;
+    }
+    if body.len() != head.count() {
+        return 3;
+    }
+    body_fault(head.kind(), head.dynamic(), body, nodes, names)
+}
+
 // The first fault of words that are to be a node, after so many nodes and under a table of so many names; 0 for none.
 pub fn fault(node: &[u32], nodes: usize, names: usize) -> u32
     ensures { λ r. ⌜ r ≡ number (decode names nodes (now (node .entry))) ⌝ }
@@ -235,12 +365,9 @@ pub fn fault(node: &[u32], nodes: usize, names: usize) -> u32
         return 3;
     }
     let head = Head { word: node[0] };
-    if !head_fits(head) {
-        return 3;
-    }
     let body = &node[1..];
-    if body.len() != head.count() {
-        return 3;
+    if clean(head, body, nodes, names) {
+        return 0;
     }
-    body_fault(head.kind(), head.dynamic(), body, nodes, names)
+    node_fault(head, body, nodes, names)
 }

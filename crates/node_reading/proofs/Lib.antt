@@ -1,2 +1,1 @@
-pub mod Offspring
 pub mod NodeReads

@@ -19,8 +19,8 @@ use Rattle.types.proofs.Nodes.{encode-kind, length-child-words, formed-parts}
 use Rattle.types.proofs.Faults.{children-encode}
 use Rattle.types.proofs.Sound.{at-formed, child-lower}
 use Rattle.node_store.specs.Inner.Stored.{InRange, NodeAt}
-use Rattle.node_reading.proofs.Offspring.{as-many, child-is}
-use Rattle.node_reading.specs.Nodes.{ChildWords}
+use Rattle.node_store.proofs.Offspring.{as-many, child-is}
+use Rattle.node_store.specs.Inner.Children.{ChildWords}
 use Rattle.node_reading.specs.Inner.{KindAt, ParentAt, FirstChild}
 
 pub no-head : (ws : List ℕ) → length ws ≡ 0 → 0 ≡ head-kind (getD ws 0 0)

@@ -1,4 +1,2 @@
-// What is read of a node in memory that is known to hold an arena: `children` the children in its words, `nodes` its kind and its
-// first child.
-pub mod children;
+// What is read of a node in memory that is known to hold an arena: its kind and its first child.
 pub mod nodes;

@@ -1,5 +1,5 @@
 // What is read of a node: its kind, and the first child of a lambda, a named type or `Neg`.
-use crate::children::child_words;
+use node_store::children::child_words;
 use node_store::stored::node_at;
 use types::Counters;
 use types::arc_ty::Head;

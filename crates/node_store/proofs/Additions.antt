@@ -1,6 +1,6 @@
 -- One more node in memory: what `intern_node` answers and leaves on each of its ways is what the definition says.
 use Prim.Native.Nat.{ℕ, suc, _+_, _-_, _<_, _≤_}
-use mathlib.Core.Path.{_≡_, refl, sym, ap, _∙_}
+use mathlib.Core.Path.{_≡_, refl, sym, ap, _∙_, subst}
 use mathlib.Core.Bool.{true, false}
 use mathlib.Core.List.{List, _∷_}
 use mathlib.Core.Option.{none, some}
@@ -23,7 +23,7 @@ use Rattle.types.proofs.Decodes.{well-parts, Faultless, faultless}
 use Rattle.types.proofs.Sound.{find-at}
 use Rattle.types.proofs.Addresses.{word-room, start-room, words-more, starts-more, flat-more}
 use Rattle.node_store.specs.Inner.Stored.{Searched, FoundIn, found-at}
-use Rattle.node_store.specs.Inner.Added.{Room, Pasted, Fresh, Interns, Under}
+use Rattle.node_store.specs.Inner.Added.{Room, Pasted, Fresh, Absent, Interns, Under}
 use Rattle.node_store.specs.Intern.{has-room, intern}
 use Rattle.node_store.specs.declared.stored.Found.{Found}
 use Rattle.node_store.specs.declared.stored.Found.the-variants as found
@@ -97,33 +97,36 @@ module _ {w s : List ℕ} {c : Counters} {ws : List ℕ} where
           ∙ sym (ap (reply-of w s c) (intern-stored (length w) (length s) x a n (sym (seen t a x H N) ∙ ap found-at e)));
     }
 
-    module _ (e : r ≡ found.Nothing) where
-      not-there : (t : ℕ) (a : Arena) (x : Node) → Holds t w s c a → IsNode t (length a) ws x → find x a ≡ none
-      not-there t a x H N = sym (seen t a x H N) ∙ ap found-at e
+    pub nothing-there : r ≡ found.Nothing → Absent w s c ws
+    nothing-there e = record { is = subst (FoundIn w s c ws) e I }
 
-      answer-full : ((t : ℕ) (a : Arena) (x : Node) → Holds t w s c a → IsNode t (length a) ws x → has-room (length w) (length s) (x ∷ a) ≡ true → ⊥) → Interns w s c ws w s (interned.Refused 7)
-      unfolding reply-of
-      answer-full f = record {
-        is = λ t a x H N. sym (ap (reply-of w s c) (intern-full (length w) (length s) x a (not-there t a x H N) (not-true (has-room (length w) (length s) (x ∷ a)) (f t a x H N))));
-      }
+  module _ (A : Absent w s c ws) where
+    not-there : (t : ℕ) (a : Arena) (x : Node) → Holds t w s c a → IsNode t (length a) ws x → find x a ≡ none
+    not-there t a x H N = sym (seen (A .is) t a x H N)
 
-      pub no-starts : length s - c .nodes < 1 → Interns w s c ws w s (interned.Refused 7)
-      no-starts h = answer-full (λ t a x H N b. omega (arith, room-parts (length w) (length s) x a b .1, H .nodes))
+    answer-full : ((t : ℕ) (a : Arena) (x : Node) → Holds t w s c a → IsNode t (length a) ws x → has-room (length w) (length s) (x ∷ a) ≡ true → ⊥) → Interns w s c ws w s (interned.Refused 7)
+    unfolding reply-of
+    answer-full f = record {
+      is = λ t a x H N. sym (ap (reply-of w s c) (intern-full (length w) (length s) x a (not-there t a x H N) (not-true (has-room (length w) (length s) (x ∷ a)) (f t a x H N))));
+    }
 
-      pub no-words : length w - c .words < length ws → Interns w s c ws w s (interned.Refused 7)
-      no-words h = answer-full (λ t a x H N b. omega (arith, room-parts (length w) (length s) x a b .0, flat-more H x, ap length (N .words), word-room H))
+    pub no-starts : length s - c .nodes < 1 → Interns w s c ws w s (interned.Refused 7)
+    no-starts h = answer-full (λ t a x H N b. omega (arith, room-parts (length w) (length s) x a b .1, H .nodes))
 
-      pub answer-new : 1 ≤ length s - c .nodes → length ws ≤ length w - c .words → {w′ : List ℕ} → Pasted w (c .words) ws w′
-          → Interns w s c ws w′ (set s (c .nodes) (c .words)) (interned.Node (c .nodes) (record { nodes = c .nodes + 1; words = c .words + length ws }))
-      unfolding reply-of
-      answer-new h l P = record {
-        is = λ t a x H N.
-            let k = ap length (N .words) in
-            let m = flat-more H x in
-            finished (x ∷ a) (length w) (length s) (H .nodes) (omega (arith, H .nodes)) (omega arith)
-            (P .is ∙ ap (λ (v : List ℕ). paste w (c .words) v (length v)) (N .words) ∙ words-more H x) (starts-more H x (omega arith))
-            ∙ sym (ap (reply-of w s c) (intern-new (length w) (length s) x a (not-there t a x H N) (parts-room (length w) (length s) x a (omega (arith, word-room H)) (omega (arith, H .nodes)))));
-      }
+    pub no-words : length w - c .words < length ws → Interns w s c ws w s (interned.Refused 7)
+    no-words h = answer-full (λ t a x H N b. omega (arith, room-parts (length w) (length s) x a b .0, flat-more H x, ap length (N .words), word-room H))
+
+    pub answer-new : 1 ≤ length s - c .nodes → length ws ≤ length w - c .words → {w′ : List ℕ} → Pasted w (c .words) ws w′
+        → Interns w s c ws w′ (set s (c .nodes) (c .words)) (interned.Node (c .nodes) (record { nodes = c .nodes + 1; words = c .words + length ws }))
+    unfolding reply-of
+    answer-new h l P = record {
+      is = λ t a x H N.
+          let k = ap length (N .words) in
+          let m = flat-more H x in
+          finished (x ∷ a) (length w) (length s) (H .nodes) (omega (arith, H .nodes)) (omega arith)
+          (P .is ∙ ap (λ (v : List ℕ). paste w (c .words) v (length v)) (N .words) ∙ words-more H x) (starts-more H x (omega arith))
+          ∙ sym (ap (reply-of w s c) (intern-new (length w) (length s) x a (not-there t a x H N) (parts-room (length w) (length s) x a (omega (arith, word-room H)) (omega (arith, H .nodes)))));
+    }
 
 -- ---- words without a fault, by the number that `fault` gives, are a node that may be added
 module _ {table : ℕ} {w s : List ℕ} {c : Counters} (ws : List ℕ) {m : ℕ} (z : m ≡ number (decode table (c .nodes) ws)) where

@@ -3,3 +3,4 @@ pub mod Stretches
 pub mod Searches
 pub mod Additions
 pub mod Interning
+pub mod Offspring

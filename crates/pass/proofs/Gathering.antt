@@ -24,8 +24,8 @@ use Rattle.node_store.specs.Intern.{left}
 use Rattle.node_store.specs.declared.added.Interned.{Interned}
 use Rattle.node_store.specs.declared.added.Interned.the-variants as interned
 use Rattle.node_store.proofs.Interning.{done, done-ext}
-use Rattle.node_reading.specs.Nodes.{ChildWords}
-use Rattle.node_reading.proofs.Offspring.{as-many, child-is}
+use Rattle.node_store.specs.Inner.Children.{ChildWords}
+use Rattle.node_store.proofs.Offspring.{as-many, child-is}
 use Rattle.recursion.specs.Jobs.{Job, each}
 use Rattle.recursion.proofs.Answers.{ok-same, bind-parts}
 use Rattle.recursion.proofs.Members.{index-of, member-below}
@@ -156,6 +156,13 @@ module _ {w s : List ℕ} {c : Counters} {n kind-number : ℕ} {removable droppe
       }
 
       module _ {d : Counters} (q : g ≡ run.Went d) where
+        -- the list itself is still there
+        pub near-inside : n < d .nodes
+        near-inside =
+            let R = P .ready in
+            let D = ended (R .holds) (R .agrees) (R .caches) q in
+            omega (arith, R .inside, R .holds .nodes, D .holds .nodes, ext-length (R .view) (D .arena) (D .ext))
+
         pub closing-ready : Closing w′ s′ d kind-number items′ (r .count)
         closing-ready =
             let R = P .ready in

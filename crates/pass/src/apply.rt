@@ -4,9 +4,9 @@ use crate::cache::cached;
 use crate::cache::remember;
 use member_lists::Closed;
 use member_lists::close_list;
-use node_reading::children::child_words;
 use node_reading::nodes::kind_at;
 use node_store::added::Interned;
+use node_store::children::child_words;
 use node_store::stored::node_at;
 use rebuilding::children::all_children;
 use rebuilding::children::remaining;
@@ -17,6 +17,8 @@ use types::Counters;
 use types::arc_ty::Head;
 use types::arc_ty::child;
 use types::arc_ty::wide;
+ghost use Rattle.node_filter.specs.Inner.Filter.{CoversLent, CoversAfter};
+ghost use Rattle.recursion.specs.Inner.Work.{CoversRun};
 ghost use Rattle.pass.specs.Inner.Applied.{Ready, Applies, ListAt, ListReady, FirstMember, EachReady, AppliesEach};
 
 // The first member of the list n.
@@ -38,16 +40,29 @@ pub fn apply_simplification(
     keep: bool,
     dropped: &mut [u32; 4096],
     kept: &mut [u32; 4096],
+    filter: &mut [u64; 2048],
 ) -> Interned
     requires { ⌜ Ready (now words) (now starts) c n (now removable) (now dropped) (now kept) ⌝ }
+    requires { ⌜ CoversLent (now words) (now starts) c (now filter) ⌝ }
     ensures { λ r. ⌜ Applies (now (words .entry)) (now (starts .entry)) c n (now (removable .entry)) keep (now (dropped .entry))
         (now (kept .entry)) (now (words .exit)) (now (starts .exit)) (now (dropped .exit)) (now (kept .exit)) r ⌝ }
+    ensures { λ r. ⌜ CoversAfter (now (words .exit)) (now (starts .exit)) r (now (filter .exit)) ⌝ }
 {
     let hit = cached(dropped, kept, keep, n);
     if hit != 0 {
         return Interned::Node(hit - 1, c);
     }
-    let r = apply_simplification_uncached(words, starts, c, n, removable, keep, dropped, kept);
+    let r = apply_simplification_uncached(
+        words,
+        starts,
+        c,
+        n,
+        removable,
+        keep,
+        dropped,
+        kept,
+        filter,
+    );
     let Interned::Node(m, d) = r else {
         return r;
     };
@@ -65,14 +80,28 @@ fn apply_simplification_uncached(
     keep: bool,
     dropped: &mut [u32; 4096],
     kept: &mut [u32; 4096],
+    filter: &mut [u64; 2048],
 ) -> Interned
     requires { ⌜ Ready (now words) (now starts) c n (now removable) (now dropped) (now kept) ⌝ }
+    requires { ⌜ CoversLent (now words) (now starts) c (now filter) ⌝ }
     ensures { λ r. ⌜ Applies (now (words .entry)) (now (starts .entry)) c n (now (removable .entry)) keep (now (dropped .entry))
         (now (kept .entry)) (now (words .exit)) (now (starts .exit)) (now (dropped .exit)) (now (kept .exit)) r ⌝ }
+    ensures { λ r. ⌜ CoversAfter (now (words .exit)) (now (starts .exit)) r (now (filter .exit)) ⌝ }
 {
     let kind = kind_at(words, starts, c, wide(n));
     if (kind == Head::UNION) | (kind == Head::INTERSECTION) {
-        return apply_list(words, starts, c, n, kind, removable, keep, dropped, kept);
+        return apply_list(
+            words,
+            starts,
+            c,
+            n,
+            kind,
+            removable,
+            keep,
+            dropped,
+            kept,
+            filter,
+        );
     }
     let mut list = all_children(words, starts, c, n);
     let count = list.count;
@@ -87,11 +116,12 @@ fn apply_simplification_uncached(
         keep,
         dropped,
         kept,
+        filter,
     );
     let Run::Went(d) = r else {
         return Interned::Refused(r.refusal());
     };
-    rebuild(words, starts, d, n, &list.items, count)
+    rebuild(words, starts, d, n, &list.items, count, filter)
 }
 
 // A member list: its members that remain are simplified and gathered; if nothing is left of them, the first is simplified with
@@ -106,10 +136,13 @@ fn apply_list(
     keep: bool,
     dropped: &mut [u32; 4096],
     kept: &mut [u32; 4096],
+    filter: &mut [u64; 2048],
 ) -> Interned
     requires { ⌜ ListReady (now words) (now starts) c n kind (now removable) (now dropped) (now kept) ⌝ }
+    requires { ⌜ CoversLent (now words) (now starts) c (now filter) ⌝ }
     ensures { λ r. ⌜ Applies (now (words .entry)) (now (starts .entry)) c n (now (removable .entry)) keep (now (dropped .entry))
         (now (kept .entry)) (now (words .exit)) (now (starts .exit)) (now (dropped .exit)) (now (kept .exit)) r ⌝ }
+    ensures { λ r. ⌜ CoversAfter (now (words .exit)) (now (starts .exit)) r (now (filter .exit)) ⌝ }
 {
     let first = first_member(words, starts, c, n);
     let mut list = remaining(words, starts, c, n, removable, keep);
@@ -125,13 +158,24 @@ fn apply_list(
         keep,
         dropped,
         kept,
+        filter,
     );
     let Run::Went(d) = r else {
         return Interned::Refused(r.refusal());
     };
-    let closed = close_list(words, starts, d, kind, &list.items, count);
+    let closed = close_list(words, starts, d, kind, &list.items, count, n, filter);
     let Closed::Done(done) = closed else {
-        return apply_simplification(words, starts, d, first, removable, true, dropped, kept);
+        return apply_simplification(
+            words,
+            starts,
+            d,
+            first,
+            removable,
+            true,
+            dropped,
+            kept,
+            filter,
+        );
     };
     done
 }
@@ -148,17 +192,30 @@ fn apply_each(
     keep: bool,
     dropped: &mut [u32; 4096],
     kept: &mut [u32; 4096],
+    filter: &mut [u64; 2048],
 ) -> Run
     requires { ⌜ EachReady (now words) (now starts) c n (now items) count (now removable) (now dropped) (now kept) ⌝ }
+    requires { ⌜ CoversLent (now words) (now starts) c (now filter) ⌝ }
     ensures { λ r. ⌜ AppliesEach (now (words .entry)) (now (starts .entry)) c n (now (items .entry)) count (now (removable .entry)) keep
         (now (dropped .entry)) (now (kept .entry)) (now (words .exit)) (now (starts .exit)) (now (items .exit)) (now (dropped .exit))
         (now (kept .exit)) r ⌝ }
+    ensures { λ r. ⌜ CoversRun (now (words .exit)) (now (starts .exit)) r (now (filter .exit)) ⌝ }
 {
     let mut last = c;
     let mut i = 0;
     while i < count {
         let item = item_at(items, i);
-        let r = apply_simplification(words, starts, last, item, removable, keep, dropped, kept);
+        let r = apply_simplification(
+            words,
+            starts,
+            last,
+            item,
+            removable,
+            keep,
+            dropped,
+            kept,
+            filter,
+        );
         let Interned::Node(m, d) = r else {
             return Run::Refused(r.refusal());
         };

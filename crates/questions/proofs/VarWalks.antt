@@ -26,7 +26,7 @@ use Rattle.bits.proofs.Sets.{has-none}
 use Rattle.node_store.specs.Inner.Stored.{InRange, NodeAt}
 use Rattle.walks.specs.Inner.Asked.{Says}
 use Rattle.walks.specs.Reach.{some-of}
-use Rattle.node_reading.specs.Nodes.{ChildWords}
+use Rattle.node_store.specs.Inner.Children.{ChildWords}
 use Rattle.walks.proofs.Marks.{root-small}
 use Rattle.questions.specs.Vars.{kind-has, has-var}
 use Rattle.questions.specs.Inner.Vars.{words-have, Learned}

@@ -2,8 +2,8 @@
 // before it comes to the node.
 use bits::put;
 use bits::test;
-use node_reading::children::child_words;
 use node_reading::nodes::kind_in;
+use node_store::children::child_words;
 use node_store::stored::node_at;
 use soundness::Judged;
 use soundness::judge;

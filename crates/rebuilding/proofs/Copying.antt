@@ -18,8 +18,8 @@ use Rattle.types.proofs.Faults.{children-encode}
 use Rattle.types.proofs.Sound.{at-formed, child-lower}
 use Rattle.bits.proofs.Sets.{has-none}
 use Rattle.node_store.specs.Inner.Stored.{InRange, NodeAt}
-use Rattle.node_reading.specs.Nodes.{ChildWords}
-use Rattle.node_reading.proofs.Offspring.{as-many}
+use Rattle.node_store.specs.Inner.Children.{ChildWords}
+use Rattle.node_store.proofs.Offspring.{as-many}
 use Rattle.simplification.specs.Pass.{no-variable, is-removable, remaining}
 use Rattle.rebuilding.specs.Inner.Children.{setting, Agrees, Drops, Space, unless, Adds, AllChildren, Remains}
 use Rattle.rebuilding.specs.declared.children.Children.{Children}

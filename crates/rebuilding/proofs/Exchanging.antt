@@ -16,7 +16,7 @@ use Rattle.types.specs.Kind.{disc, body-count}
 use Rattle.types.specs.Node.{positive, negative, Field, field, primitive, list, lambda, attrset, named, Tag, members, bound, var, neg, form, node, kind, data-of, field-names, child-words, body, head-of, encode, below}
 use Rattle.types.proofs.Lists.{below-at, below-cons}
 use Rattle.types.proofs.Nodes.{length-child-words, Formed}
-use Rattle.node_reading.proofs.Offspring.{child-inside}
+use Rattle.node_store.proofs.Offspring.{child-inside}
 use Rattle.node_order.proofs.Splits.{body-lent}
 use Rattle.node_store.proofs.Loops.{Agree, agree-start, agree-more, agree-fails, agree-done}
 use Rattle.rebuilding.specs.Inner.Rebuilt.{with-child, AsMany, OneEach, Exchanging, Exchanged}

@@ -28,8 +28,8 @@ use Rattle.node_store.specs.declared.added.Interned.{Interned}
 use Rattle.node_store.specs.declared.added.Interned.the-variants as interned
 use Rattle.node_store.proofs.Additions.{finished}
 use Rattle.recursion.proofs.Interning.{node-is, well-again, intern-there}
-use Rattle.node_reading.specs.Nodes.{ChildWords}
-use Rattle.node_reading.proofs.Offspring as offspring
+use Rattle.node_store.specs.Inner.Children.{ChildWords}
+use Rattle.node_store.proofs.Offspring as offspring
 use Rattle.rebuilding.specs.Inner.Rebuilt.{AsMany, OneEach, Exchanging, Exchanged, Rebuilding, Rebuilds}
 use Rattle.rebuilding.proofs.Copying.{children-read, few-read}
 use Rattle.rebuilding.proofs.Exchanging.{length-given, exchanged-encode}

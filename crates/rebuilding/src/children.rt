@@ -1,8 +1,8 @@
 // Which children of a node a pass simplifies.
 use bits::test;
-use node_reading::children::child_words;
 use node_reading::nodes::first_child;
 use node_reading::nodes::kind_at;
+use node_store::children::child_words;
 use node_store::stored::node_at;
 use types::Counters;
 use types::arc_ty::Head;

@@ -1,7 +1,7 @@
 // A node with other children.
-use node_reading::children::child_words;
+use node_filter::intern_filtered;
 use node_store::added::Interned;
-use node_store::added::intern_node;
+use node_store::children::child_words;
 use node_store::stored::node_at;
 use types::Counters;
 use types::arc_ty::child;
@@ -12,6 +12,7 @@ ghost use mathlib.Core.List.{map};
 ghost use lib.ListN.{take};
 ghost use Rattle.words.specs.Words.{child};
 ghost use Rattle.types.specs.Same.{same-numbers};
+ghost use Rattle.node_filter.specs.Inner.Filter.{CoversLent, CoversAfter};
 ghost use Rattle.rebuilding.specs.Inner.Rebuilt.{with-child, OneEach, Exchanging, Exchanged, Rebuilding, Rebuilds};
 
 // Whether the items are the children in the body of a node, of which there are as many.
@@ -60,16 +61,19 @@ fn intern_with(
     n: u32,
     items: &[u32; 65],
     count: usize,
+    filter: &mut [u64; 2048],
 ) -> Interned
     requires { ⌜ Rebuilding (now words) (now starts) c n (now items) count ⌝ }
     requires { ⌜ 0 < count ⌝ }
+    requires { ⌜ CoversLent (now words) (now starts) c (now filter) ⌝ }
     ensures { λ r. ⌜ Rebuilds (now (words .entry)) (now (starts .entry)) c n (now (items .entry)) count (now (words .exit))
         (now (starts .exit)) r ⌝ }
+    ensures { λ r. ⌜ CoversAfter (now (words .exit)) (now (starts .exit)) r (now (filter .exit)) ⌝ }
 {
     let mut new = [0u32; 66];
     exchange(node_at(words, starts, c, wide(n)), items, count, &mut new);
     let len = count + 1;
-    intern_node(words, starts, c, &new[..len])
+    intern_filtered(words, starts, c, &new[..len], filter)
 }
 
 // Node n with these children in place of its own. With its own it is node n itself, and no search is needed: most nodes of
@@ -81,14 +85,17 @@ pub fn rebuild(
     n: u32,
     items: &[u32; 65],
     count: usize,
+    filter: &mut [u64; 2048],
 ) -> Interned
     requires { ⌜ Rebuilding (now words) (now starts) c n (now items) count ⌝ }
+    requires { ⌜ CoversLent (now words) (now starts) c (now filter) ⌝ }
     ensures { λ r. ⌜ Rebuilds (now (words .entry)) (now (starts .entry)) c n (now (items .entry)) count (now (words .exit))
         (now (starts .exit)) r ⌝ }
+    ensures { λ r. ⌜ CoversAfter (now (words .exit)) (now (starts .exit)) r (now (filter .exit)) ⌝ }
 {
     let body = child_words(node_at(words, starts, c, wide(n)));
     if same_children(body, items, count) {
         return Interned::Node(n, c);
     }
-    intern_with(words, starts, c, n, items, count)
+    intern_with(words, starts, c, n, items, count, filter)
 }

@@ -6,5 +6,6 @@ pub mod TakingBack
 pub mod Leading
 pub mod Remembering
 pub mod Turns
+pub mod Covering
 pub mod Nodes
 pub mod Hosts

@@ -19,6 +19,7 @@ use Rattle.types.proofs.Lists.{length-padded}
 use Rattle.types.proofs.Addresses.{start-room}
 use Rattle.node_store.specs.Inner.Stored.{InRange}
 use Rattle.node_store.specs.Intern.{intern}
+use Rattle.node_store.specs.Inner.Added.{Interns}
 use Rattle.node_store.specs.declared.added.Interned.{Interned}
 use Rattle.node_store.specs.declared.added.Interned.the-variants as interned
 use Rattle.walks.specs.Inner.Asked.{Says}
@@ -37,7 +38,7 @@ use Rattle.free_vars.proofs.VarPlaces.{listed-few}
 use Rattle.renumbering.specs.Renumbered.{var-node, renumbered}
 use Rattle.types.specs.Tyvar.{unknown}
 use Rattle.renumber.specs.Renumber.{by-vars, normalize-vars, normalize}
-use Rattle.renumbering.specs.Inner.{Numbered, InternsVar}
+use Rattle.renumbering.specs.Inner.{Numbered, VarWords}
 use Rattle.renumbering.proofs.VarNodes.{var-well}
 use Rattle.renumbering.proofs.Working.{no-var}
 
@@ -47,36 +48,36 @@ led (work.done H E l C) = done H E l
 led (work.stop S) = stop S
 
 -- ---- normalize_vars
-module _ {w s : List ℕ} {c : Counters} {root : ℕ} (P : InRange w s c root) {l : VarList} (S : Says free-list w s c root l) where
+module _ {w s : List ℕ} {c : Counters} {root : ℕ} (P : InRange w s c root) {array : List ℕ} {count : ℕ} (S : Says free-list w s c root (record { vars = array; count = count })) where
   inside : {table : ℕ} {a : Arena} → Holds table w s c a → root < length a
   inside H = omega (arith, P .inside, H .nodes)
 
   few-nodes : {table : ℕ} {a : Arena} → Holds table w s c a → length a ≤ 4096
   few-nodes H = omega (arith, start-room H, H .few-starts, H .nodes)
 
-  count-is : {table : ℕ} {a : Arena} → Holds table w s c a → l .count ≡ length (free-type-vars a root)
+  count-is : {table : ℕ} {a : Arena} → Holds table w s c a → count ≡ length (free-type-vars a root)
   unfolding free-list
   count-is {table} {a} H = ap (λ (r : VarList). r .count) (S .is table a H)
 
-  pub listed : {table : ℕ} {a : Arena} → Holds table w s c a → take (l .count) (l .vars) ≡ free-type-vars a root
+  pub listed : {table : ℕ} {a : Arena} → Holds table w s c a → take count array ≡ free-type-vars a root
   unfolding free-list
   listed {table} {a} H = ap (λ (r : VarList). take (r .count) (r .vars)) (S .is table a H) ∙ take-at (free-type-vars a root) _ (length (free-type-vars a root)) refl
 
   few-listed : {table : ℕ} {a : Arena} → Holds table w s c a → length (free-type-vars a root) ≤ 4096
   few-listed {table} {a} H = omega (arith, few-nodes H, listed-few table a (H .good) root (inside H))
 
-  pub vars-room : l .count ≤ length (l .vars)
+  pub vars-room : count ≤ length array
   unfolding free-list
   vars-room =
       let H = P .lent .holds in
       let vs = free-type-vars (P .lent .view) root in
-      let q : length (l .vars) ≡ 4096 = ap (λ (r : VarList). length (r .vars)) (S .is (P .lent .table) (P .lent .view) H) ∙ length-padded 4096 vs (few-listed H) in
+      let q : length array ≡ 4096 = ap (λ (r : VarList). length (r .vars)) (S .is (P .lent .table) (P .lent .view) H) ∙ length-padded 4096 vs (few-listed H) in
       omega (arith, q, count-is H, few-listed H)
 
-  pub vars-counted : l .count ≡ length (take (l .count) (l .vars))
-  vars-counted = sym (length-take-le (l .count) (l .vars) vars-room)
+  pub vars-counted : count ≡ length (take count array)
+  vars-counted = sym (length-take-le count array vars-room)
 
-  pub vars-ready : Ready (renumbered (take (l .count) (l .vars))) (Numbered (take (l .count) (l .vars))) w s c root (replicate 4096 0)
+  pub vars-ready : Ready (renumbered (take count array)) (Numbered (take count array)) w s c root (replicate 4096 0)
   vars-ready =
       let H = P .lent .holds in
       record {
@@ -100,13 +101,13 @@ module _ {w s : List ℕ} {c : Counters} {root : ℕ} (P : InRange w s c root) {
   some-left (v ∷ vs) a f = refl
 
   -- a type without variables
-  pub vars-none : l .count ≡ 0 → Works normalize-vars w s c root w s (interned.Node root c)
+  pub vars-none : count ≡ 0 → Works normalize-vars w s c root w s (interned.Node root c)
   unfolding normalize-vars
   vars-none e = record {
     is = λ table a H. subst (LeadsOnce table a w s (interned.Node root c)) (sym (none-left (free-type-vars a root) a (sym (count-is H) ∙ e))) (done H here (inside H));
   }
 
-  pub vars-done : (l .count ≡ 0 → ⊥) → {w′ s′ entries : List ℕ} {r : Interned} → Does (renumbered (take (l .count) (l .vars))) (Numbered (take (l .count) (l .vars))) w s c root (replicate 4096 0) w′ s′ entries r → Works normalize-vars w s c root w′ s′ r
+  pub vars-done : (count ≡ 0 → ⊥) → {w′ s′ entries : List ℕ} {r : Interned} → Does (renumbered (take count array)) (Numbered (take count array)) w s c root (replicate 4096 0) w′ s′ entries r → Works normalize-vars w s c root w′ s′ r
   unfolding normalize-vars
   vars-done f {w′} {s′} {entries} {r} D = record {
     is = λ table a H.
@@ -132,8 +133,8 @@ module _ {w s : List ℕ} {c : Counters} {root x k : ℕ} (e : x ≡ root) (K : 
   kind-is : {table : ℕ} {a : Arena} → Holds table w s c a → k ≡ disc (kind (tag (at a root)))
   kind-is {table} {a} H = K .is table a H ∙ ap (λ (i : ℕ). disc (kind (tag (at a i)))) e
 
-  pub unknown-done : (u : Bool) → (u && eqb k 3) ≡ true → {w′ s′ : List ℕ} {r : Interned} → InternsVar w s c unknown w′ s′ r → length w′ ≡ length w → length s′ ≡ length s → Works (normalize u) w s c root w′ s′ r
-  unknown-done u q {w′} {s′} {r} I lw ls = record {
+  pub unknown-done : (u : Bool) → (u && eqb k 3) ≡ true → {ws w′ s′ : List ℕ} {r : Interned} → VarWords unknown ws → Interns w s c ws w′ s′ r → length w′ ≡ length w → length s′ ≡ length s → Works (normalize u) w s c root w′ s′ r
+  unknown-done u q {w′ = w′} {s′} {r} X I lw ls = record {
     is = λ table a H.
         let b = and-true u (eqb k 3) q in
         let T = kind-var (tag (at a root)) (sym (kind-is H) ∙ eqb-true k 3 (b .1)) in
@@ -144,7 +145,7 @@ module _ {w s : List ℕ} {c : Counters} {root x k : ℕ} (e : x ≡ root) (K : 
         (λ m d p.
         let F = intern-steady (length w) (length s) table (H .few-starts) a (var-node unknown) (λ y z f. var-well table (length y) unknown (omega arith)) .is a d m here (H .good) p in
         record { ext = F .ext; good = F .good; low = F .inside })
-        (I .is table a H));
+        (I .is table a (var-node unknown) H (X .is table (length a))));
   }
 
   pub known-done : (u : Bool) → (u && eqb k 3) ≡ false → {w′ s′ : List ℕ} {r : Interned} → Works normalize-vars w s c root w′ s′ r → Works (normalize u) w s c root w′ s′ r

@@ -1,10 +1,12 @@
 // The variables of a type numbered in the order of a first visit: `normalize_vars` and `normalize_replacing_unknown`.
 use free_vars::list_vars;
+use node_filter::set_all_bits;
 use node_reading::nodes::kind_at;
 use node_store::added::Interned;
+use node_store::added::intern_node;
 use recursion::take_back_nodes;
 use renumbering::nodes::renumber_node;
-use renumbering::vars::intern_var;
+use renumbering::vars::var_words;
 use soundness::Judged;
 use soundness::judge;
 use types::Counters;
@@ -24,14 +26,23 @@ fn normalize_vars_in(words: &mut [u32], starts: &mut [u32], c: Counters, root: u
     requires { ⌜ InRange (now words) (now starts) c root ⌝ }
     ensures { λ r. ⌜ Works normalize-vars (now (words .entry)) (now (starts .entry)) c root (now (words .exit)) (now (starts .exit)) r ⌝ }
 {
-    let list = list_vars(words, starts, c, root);
-    let count = list.count;
+    let mut vars = [0u32; 4096];
+    let count = list_vars(words, starts, c, root, &mut vars);
     if count == 0 {
         return Interned::Node(root, c);
     }
-    let vars = list.vars;
     let mut cache = [0u32; 4096];
-    renumber_node(words, starts, c, root, &vars[..count], &mut cache)
+    let mut filter = [0u64; 2048];
+    set_all_bits(words, starts, c, &mut filter);
+    renumber_node(
+        words,
+        starts,
+        c,
+        root,
+        &vars[..count],
+        &mut cache,
+        &mut filter,
+    )
 }
 
 // Either call likewise; `unknown` says that a root that is a variable becomes the unknown one.
@@ -47,7 +58,8 @@ fn normalize_in(
         (now (starts .exit)) r ⌝ }
 {
     if unknown & (kind_at(words, starts, c, wide(root)) == Head::TY_VAR) {
-        return intern_var(words, starts, c, UNKNOWN_TYVAR);
+        let node = var_words(UNKNOWN_TYVAR);
+        return intern_node(words, starts, c, &node);
     }
     normalize_vars_in(words, starts, c, root)
 }

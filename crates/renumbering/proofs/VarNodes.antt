@@ -8,7 +8,7 @@ use lib.ListN.{length, getD}
 use borrow.Author.Tests.{lt-ltb}
 use Rattle.words.specs.Words.{head-word}
 use Rattle.types.specs.Kind.{body-count}
-use Rattle.types.specs.Node.{var, node, tag, child-words, head-of, encode, well, IsNode}
+use Rattle.types.specs.Node.{var, node, tag, child-words, head-of, encode, well}
 use Rattle.types.specs.Arena.{Arena, at}
 use Rattle.types.specs.Memory.{Holds}
 use Rattle.types.specs.Reply.{reply-of}
@@ -20,7 +20,7 @@ use Rattle.node_store.specs.Inner.Added.{Fresh, Interns}
 use Rattle.node_store.specs.declared.added.Interned.{Interned}
 use Rattle.free_vars.proofs.Occurrences.{kind-var, var-alone}
 use Rattle.renumbering.specs.Renumbered.{index, var-node}
-use Rattle.renumbering.specs.Inner.{VarAt, VarIs, InternsVar, RenumbersVar}
+use Rattle.renumbering.specs.Inner.{VarAt, VarIs, VarWords, RenumbersVar}
 use Rattle.renumbering.proofs.Indexing.{index-few}
 
 pub var-well : (table nodes v : ℕ) → v < 2 ^ 32 → well table nodes (var-node v) ≡ true
@@ -48,27 +48,23 @@ module _ {w s : List ℕ} {c : Counters} {n : ℕ} (T : VarAt w s c n) where
     pub var-read : {r : ℕ} → r ≡ getD ws 1 0 → VarIs w s c n r
     var-read e = record { is = λ table a H. let R = read table a H in R .1 .0 ∙ ap var (sym (e ∙ ap (λ (l : List ℕ). getD l 1 0) (R .1 .1))) }
 
--- ---- interned
-module _ {v h : ℕ} (e : h ≡ head-word 3 false false 1) (b : v < 2 ^ 32) where
-  is-var : (table nodes : ℕ) → IsNode table nodes (h ∷ v ∷ []) (var-node v)
-  is-var table nodes = record { words = ap (λ (x : ℕ). x ∷ v ∷ []) e ∙ sym (var-words v); good = var-well table nodes v b }
+-- ---- made
+pub var-made : {v h : ℕ} → h ≡ head-word 3 false false 1 → v < 2 ^ 32 → VarWords v (h ∷ v ∷ [])
+var-made {v} e b = record { is = λ table nodes. record { words = ap (λ (x : ℕ). x ∷ v ∷ []) e ∙ sym (var-words v); good = var-well table nodes v b } }
 
-  pub var-fresh : {w s : List ℕ} {c : Counters} → Lent w s c → Fresh w s c (h ∷ v ∷ [])
-  var-fresh L = record { table = L .table; view = L .view; holds = L .holds; node = var-node v; is = is-var (L .table) (length (L .view)) }
-
-  pub var-interned : {w s : List ℕ} {c : Counters} {w′ s′ : List ℕ} {r : Interned} → Interns w s c (h ∷ v ∷ []) w′ s′ r → InternsVar w s c v w′ s′ r
-  var-interned I = record { is = λ table a H. I .is table a (var-node v) H (is-var table (length a)) }
+pub var-fresh : {w s : List ℕ} {c : Counters} {v : ℕ} {ws : List ℕ} → VarWords v ws → Lent w s c → Fresh w s c ws
+var-fresh {v = v} X L = record { table = L .table; view = L .view; holds = L .holds; node = var-node v; is = X .is (L .table) (length (L .view)) }
 
 -- ---- renumbered
 pub place-fits : (vars : List ℕ) (v : ℕ) {p : ℕ} → length vars ≤ 4096 → p ≡ index vars v → p < 2 ^ 32
 place-fits vars v l e = omega (arith, l, e, index-few vars v)
 
-pub var-renumbered : {vars w s : List ℕ} {c : Counters} {n x v p : ℕ} {w′ s′ : List ℕ} {r : Interned} → x ≡ n → VarIs w s c x v → p ≡ index vars v → InternsVar w s c p w′ s′ r → RenumbersVar vars w s c n w′ s′ r
-var-renumbered {vars} {w} {s} {c} {n} {x} {v} {p} {w′} {s′} {r} e T q I = record {
+pub var-renumbered : {vars w s : List ℕ} {c : Counters} {n x v p : ℕ} {ws w′ s′ : List ℕ} {r : Interned} → x ≡ n → VarIs w s c x v → p ≡ index vars v → VarWords p ws → Interns w s c ws w′ s′ r → RenumbersVar vars w s c n w′ s′ r
+var-renumbered {vars} {w} {s} {c} {n} {x} {v} {p} {w′ = w′} {s′} {r} e T q X I = record {
   is = λ table a u H t.
       let z = sym (T .is table a H) ∙ ap (λ (i : ℕ). tag (at a i)) e ∙ t in
       let y : v ≡ u = cc in
-      subst (λ (i : ℕ). left c r w′ s′ ≡ reply-of w s c (intern (length w) (length s) (var-node i) a)) (q ∙ ap (index vars) y) (I .is table a H);
+      subst (λ (i : ℕ). left c r w′ s′ ≡ reply-of w s c (intern (length w) (length s) (var-node i) a)) (q ∙ ap (index vars) y) (I .is table a (var-node p) H (X .is table (length a)));
 }
 
 pub var-wide : {w s : List ℕ} {c : Counters} {n x : ℕ} → x ≡ n → VarAt w s c n → VarAt w s c x

@@ -3,7 +3,7 @@ use Prim.Native.Nat.{ℕ, _<_, _≤_}
 use mathlib.Core.Path.{_≡_}
 use mathlib.Core.List.{List}
 use lib.ListN.{length}
-use Rattle.types.specs.Node.{var, tag}
+use Rattle.types.specs.Node.{var, tag, IsNode}
 use Rattle.types.specs.Arena.{Arena, at, Ext}
 use Rattle.types.specs.Memory.{Holds}
 use Rattle.types.specs.Reply.{reply-of}
@@ -29,11 +29,11 @@ pub record VarAt (w s : List ℕ) (c : Counters) (n : ℕ) : Type 0 where
 pub record VarIs (w s : List ℕ) (c : Counters) (n r : ℕ) : Type 0 where
   pub is : (table : ℕ) (a : Arena) → Holds table w s c a → tag (at a n) ≡ var r
 
--- the answer, and memory after, are those of interning the variable v
-pub record InternsVar (w s : List ℕ) (c : Counters) (v : ℕ) (w′ s′ : List ℕ) (r : Interned) : Type 0 where
-  pub is : (table : ℕ) (a : Arena) → Holds table w s c a → left c r w′ s′ ≡ reply-of w s c (intern (length w) (length s) (var-node v) a)
+-- the words are those of variable v, which may stand in any arena
+pub record VarWords (v : ℕ) (ws : List ℕ) : Type 0 where
+  pub is : (table nodes : ℕ) → IsNode table nodes ws (var-node v)
 
--- those of interning the variable of the place in the list that the variable at node n has
+-- the answer, and memory after, are those of interning the variable of the place in the list that the variable at node n has
 pub record RenumbersVar (vars w s : List ℕ) (c : Counters) (n : ℕ) (w′ s′ : List ℕ) (r : Interned) : Type 0 where
   pub is : (table : ℕ) (a : Arena) (v : ℕ) → Holds table w s c a → tag (at a n) ≡ var v
       → left c r w′ s′ ≡ reply-of w s c (intern (length w) (length s) (var-node (index vars v)) a)

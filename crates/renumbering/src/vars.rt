@@ -1,6 +1,6 @@
 // One variable: its number, its place in a list, and its node.
+use node_filter::intern_near;
 use node_store::added::Interned;
-use node_store::added::intern_node;
 use node_store::stored::node_at;
 use types::Counters;
 use types::arc_ty::Head;
@@ -8,9 +8,9 @@ use types::arc_ty::wide;
 ghost use mathlib.Core.Path.{_≡_};
 ghost use Prim.Native.Nat.{_≤_};
 ghost use lib.ListN.{length};
-ghost use Rattle.node_store.specs.Inner.Stored.{Lent};
+ghost use Rattle.node_filter.specs.Inner.Filter.{CoversLent, CoversAfter};
 ghost use Rattle.renumbering.specs.Renumbered.{index};
-ghost use Rattle.renumbering.specs.Inner.{VarAt, VarIs, InternsVar, RenumbersVar};
+ghost use Rattle.renumbering.specs.Inner.{VarAt, VarIs, VarWords, RenumbersVar};
 
 // The place of a variable in a list; the length of the list, if it has none.
 fn index_of(vars: &[u32], v: u32) -> usize
@@ -34,30 +34,32 @@ fn var_at(words: &[u32], starts: &[u32], c: Counters, n: usize) -> u32
     node_at(words, starts, c, n)[1]
 }
 
-// The number of the node of variable v, which is added where the arena has none.
-pub fn intern_var(words: &mut [u32], starts: &mut [u32], c: Counters, v: u32) -> Interned
-    requires { ⌜ Lent (now words) (now starts) c ⌝ }
-    ensures { λ r. ⌜ InternsVar (now (words .entry)) (now (starts .entry)) c v (now (words .exit)) (now (starts .exit)) r ⌝ }
+// The words of the node of variable v.
+pub fn var_words(v: u32) -> [u32; 2]
+    ensures { λ r. ⌜ VarWords v r ⌝ }
 {
     let head = Head::new(Head::TY_VAR, false, false, 1);
-    let node = [head.word, v];
-    intern_node(words, starts, c, &node)
+    [head.word, v]
 }
 
-// What the variable at node n becomes: that of its place in the list.
+// What the variable at node n becomes: that of its place in the list, often itself.
 pub fn renumber_var(
     words: &mut [u32],
     starts: &mut [u32],
     c: Counters,
     n: u32,
     vars: &[u32],
+    filter: &mut [u64; 2048],
 ) -> Interned
     requires { ⌜ VarAt (now words) (now starts) c n ⌝ }
     requires { ⌜ length (now vars) ≤ 4096 ⌝ }
+    requires { ⌜ CoversLent (now words) (now starts) c (now filter) ⌝ }
     ensures { λ r. ⌜ RenumbersVar (now (vars .entry)) (now (words .entry)) (now (starts .entry)) c n (now (words .exit))
         (now (starts .exit)) r ⌝ }
+    ensures { λ r. ⌜ CoversAfter (now (words .exit)) (now (starts .exit)) r (now (filter .exit)) ⌝ }
 {
     let v = var_at(words, starts, c, wide(n));
     let place = index_of(vars, v);
-    intern_var(words, starts, c, place as u32)
+    let node = var_words(place as u32);
+    intern_near(words, starts, c, &node, n, filter)
 }

@@ -12,9 +12,11 @@ use node_store::stored::node_at;
 use types::Counters;
 use types::arc_ty::Head;
 use types::arc_ty::wide;
+ghost use Prim.Native.Nat.{_<_};
 ghost use mathlib.Core.Path.{_≡_};
 ghost use mathlib.Core.List.{[]};
 ghost use Rattle.types.specs.Out.{number};
+ghost use Rattle.node_filter.specs.Inner.Filter.{CoversLent, CoversAfter};
 ghost use Rattle.member_lists.specs.Inner.Members.{Splicing, Filled};
 ghost use Rattle.set_op_lists.specs.Inner.{brought-out, Appends, Bringing, Brings, StandsFor};
 
@@ -86,10 +88,15 @@ fn close_sorted(
     kind: u32,
     items: &[u32; 64],
     count: usize,
+    near: u32,
+    filter: &mut [u64; 2048],
 ) -> Interned
     requires { ⌜ Filled (now words) (now starts) c kind (now items) count ⌝ }
+    requires { ⌜ near < c .nodes ⌝ }
+    requires { ⌜ CoversLent (now words) (now starts) c (now filter) ⌝ }
     ensures { λ r. ⌜ StandsFor (now (words .entry)) (now (starts .entry)) c kind (now (items .entry)) count (now (words .exit))
         (now (starts .exit)) r ⌝ }
+    ensures { λ r. ⌜ CoversAfter (now (words .exit)) (now (starts .exit)) r (now (filter .exit)) ⌝ }
 {
     let all: &[u32] = items;
     let mut sorted = [0u32; 64];
@@ -106,6 +113,8 @@ fn close_sorted(
             items: sorted,
             count,
         },
+        near,
+        filter,
     )
 }
 
@@ -117,13 +126,27 @@ pub fn close_list(
     kind: u32,
     items: &[u32; 64],
     count: usize,
+    near: u32,
+    filter: &mut [u64; 2048],
 ) -> Interned
     requires { ⌜ Filled (now words) (now starts) c kind (now items) count ⌝ }
+    requires { ⌜ near < c .nodes ⌝ }
+    requires { ⌜ CoversLent (now words) (now starts) c (now filter) ⌝ }
     ensures { λ r. ⌜ StandsFor (now (words .entry)) (now (starts .entry)) c kind (now (items .entry)) count (now (words .exit))
         (now (starts .exit)) r ⌝ }
+    ensures { λ r. ⌜ CoversAfter (now (words .exit)) (now (starts .exit)) r (now (filter .exit)) ⌝ }
 {
     if kind == Head::UNION {
-        return close_sorted(words, starts, c, Head::UNION, items, count);
+        return close_sorted(words, starts, c, Head::UNION, items, count, near, filter);
     }
-    close_sorted(words, starts, c, Head::INTERSECTION, items, count)
+    close_sorted(
+        words,
+        starts,
+        c,
+        Head::INTERSECTION,
+        items,
+        count,
+        near,
+        filter,
+    )
 }

@@ -1,4 +1,5 @@
 // `normalize_set_ops`: unions and intersections flattened, sorted and without repeats.
+use node_filter::set_all_bits;
 use node_store::added::Interned;
 use recursion::take_back_nodes;
 use set_ops_pass::normalize_set_ops_cached;
@@ -20,7 +21,9 @@ fn normalize_in(words: &mut [u32], starts: &mut [u32], c: Counters, root: u32) -
         (now (starts .exit)) r ⌝ }
 {
     let mut cache = [0u32; 4096];
-    normalize_set_ops_cached(words, starts, c, root, &mut cache)
+    let mut filter = [0u64; 2048];
+    set_all_bits(words, starts, c, &mut filter);
+    normalize_set_ops_cached(words, starts, c, root, &mut cache, &mut filter)
 }
 
 // The same for any root; a refusal takes back the nodes that were added.

@@ -21,6 +21,7 @@ use Rattle.node_store.specs.declared.added.Interned.{Interned}
 use Rattle.node_store.specs.declared.added.Interned.the-variants as interned
 use Rattle.node_store.proofs.Interning.{done-ext}
 use Rattle.node_store.proofs.Interning as interning
+use Rattle.node_filter.specs.Inner.Filter.{CoversLent, CoversAfter}
 use Rattle.recursion.specs.Jobs.{Job}
 use Rattle.recursion.specs.Inner.Cache.{Cache}
 use Rattle.recursion.specs.Inner.Work.{Grown, Leads, done, stop, Ready, Does}
@@ -76,6 +77,14 @@ module _ {table : ℕ} {a : Arena} {f : ℕ → Job} {size : ℕ} {w s entries :
   held-room (done {m = m} {d = e} H E l C) B {next} {d} p = B .node m e refl .room next d p
   held-room (stop {e = e} S) B p = let y = sym (B .refused e refl) ∙ p in let z : _≡_ {A = ℕ} 0 1 = cc in absurd (omega arith)
 
+-- the counters are those after the member, and the bits of every node are set then
+pub brought-covers : {w s f : List ℕ} {r : Interned} {number : ℕ} {items : List ℕ} {held : ℕ} {items′ : List ℕ} {b : Brought} → CoversAfter w s r f → Brings w s r number items held items′ b → {next : ℕ} {d : Counters} → b ≡ brought.Held next d → CoversLent w s d f
+brought-covers {w} {s} {f} {r} C B {next} {d} p = go r refl
+  where
+    go : (x : Interned) → r ≡ x → CoversLent w s d f
+    go (interned.Node m e) q = subst (λ (c : Counters). CoversLent w s c f) (B .node m e q .counters next d p) (C .is m e q)
+    go (interned.Refused e) q = let y = sym (B .refused e q) ∙ p in let z : _≡_ {A = ℕ} 0 1 = cc in absurd (omega arith)
+
 -- ---- the members in turn
 -- what is known of the turn i in one arena
 pub record FlatIn (table : ℕ) (a : Arena) (f : ℕ → Job) (size : ℕ) (k : Polarity) (cs w s entries items : List ℕ) (held : ℕ) (last : Counters) (i : ℕ) : Type 0 where
@@ -124,13 +133,16 @@ module _ {w₀ s₀ : List ℕ} {c₀ : Counters} {n number : ℕ} {entries₀ :
   tag-in : {table : ℕ} {u a : Arena} → Holds table w₀ s₀ c₀ a → Ext u a → n < length u → tag (at u n) ≡ members (T .ready .side)
   tag-in {table} {u} {a} H E l = ap tag (sym (ext-at u a E n l)) ∙ ap (λ (b : Arena). tag (at b n)) (unique H (T .ready .ready .holds)) ∙ T .ready .tag-is
 
+  -- the list itself is still there
+  pub flat-near : n < last .nodes
+  flat-near = let R = T .ready .ready in omega (arith, R .inside, ext-length (R .source) (now .arena) (ext-trans (R .beside) (now .ext)), now .holds .nodes)
+
   pub flat-member : i < total → MemberThere w s last n i
   flat-member h =
       let R = T .ready .ready in
-      let E = ext-trans (R .beside) (now .ext) in
-      let x = ext-at (R .source) (now .arena) E n (R .inside) in
+      let x = ext-at (R .source) (now .arena) (ext-trans (R .beside) (now .ext)) n (R .inside) in
       record {
-        range = record { lent = record { table = R .table; view = now .arena; holds = now .holds }; inside = omega (arith, R .inside, ext-length (R .source) (now .arena) E, now .holds .nodes) };
+        range = record { lent = record { table = R .table; view = now .arena; holds = now .holds }; inside = flat-near };
         inside = omega (arith, h, total-is (R .holds) (R .beside) (R .inside), ap (λ (y : Node). length (children y)) x);
       }
 

@@ -22,9 +22,9 @@ use Rattle.node_store.specs.Inner.Stored.{InRange, NodeAt}
 use Rattle.node_store.specs.Intern.{intern}
 use Rattle.node_store.specs.declared.added.Interned.{Interned}
 use Rattle.node_store.specs.declared.added.Interned.the-variants as interned
-use Rattle.node_reading.specs.Nodes.{ChildWords}
+use Rattle.node_store.specs.Inner.Children.{ChildWords}
 use Rattle.node_reading.specs.Inner.{KindAt}
-use Rattle.node_reading.proofs.Offspring.{as-many, child-is}
+use Rattle.node_store.proofs.Offspring.{as-many, child-is}
 use Rattle.member_lists.proofs.BoundKinds.{list-tag, other-tag}
 use Rattle.rebuilding.specs.Inner.Children.{AllChildren}
 use Rattle.rebuilding.specs.Inner.Rebuilt.{Rebuilding, Rebuilds}

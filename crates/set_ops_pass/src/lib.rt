@@ -1,9 +1,9 @@
 // The recursion of `normalize_set_ops`: a member list is flattened and sorted, any other node is rebuilt from what its children
 // become. A refusal is passed up, and memory then begins with the arena as it was.
 use member_lists::Members;
-use node_reading::children::child_words;
 use node_reading::nodes::kind_at;
 use node_store::added::Interned;
+use node_store::children::child_words;
 use node_store::stored::node_at;
 use rebuilding::children::all_children;
 use rebuilding::node::rebuild;
@@ -19,7 +19,8 @@ use types::arc_ty::Head;
 use types::arc_ty::child;
 use types::arc_ty::wide;
 ghost use Rattle.node_store.specs.Inner.Stored.{InRange};
-ghost use Rattle.recursion.specs.Inner.Work.{Grown, Ready, Does, EachReady, DoesEach};
+ghost use Rattle.node_filter.specs.Inner.Filter.{CoversLent, CoversAfter};
+ghost use Rattle.recursion.specs.Inner.Work.{Grown, Ready, Does, EachReady, DoesEach, CoversRun};
 ghost use Rattle.set_op_lists.specs.SetOps.{normalize};
 ghost use Rattle.set_ops_pass.specs.Inner.{ListReady, MemberCount, MemberThere, MemberAt};
 
@@ -47,16 +48,19 @@ pub fn normalize_set_ops_cached(
     c: Counters,
     n: u32,
     cache: &mut [u32; 4096],
+    filter: &mut [u64; 2048],
 ) -> Interned
     requires { ⌜ Ready normalize Grown (now words) (now starts) c n (now cache) ⌝ }
+    requires { ⌜ CoversLent (now words) (now starts) c (now filter) ⌝ }
     ensures { λ r. ⌜ Does normalize Grown (now (words .entry)) (now (starts .entry)) c n (now (cache .entry)) (now (words .exit))
         (now (starts .exit)) (now (cache .exit)) r ⌝ }
+    ensures { λ r. ⌜ CoversAfter (now (words .exit)) (now (starts .exit)) r (now (filter .exit)) ⌝ }
 {
     let hit = cached(cache, n);
     if hit != 0 {
         return Interned::Node(hit - 1, c);
     }
-    let r = normalize_set_ops_uncached(words, starts, c, n, cache);
+    let r = normalize_set_ops_uncached(words, starts, c, n, cache, filter);
     let Interned::Node(m, d) = r else {
         return r;
     };
@@ -71,22 +75,25 @@ fn normalize_set_ops_uncached(
     c: Counters,
     n: u32,
     cache: &mut [u32; 4096],
+    filter: &mut [u64; 2048],
 ) -> Interned
     requires { ⌜ Ready normalize Grown (now words) (now starts) c n (now cache) ⌝ }
+    requires { ⌜ CoversLent (now words) (now starts) c (now filter) ⌝ }
     ensures { λ r. ⌜ Does normalize Grown (now (words .entry)) (now (starts .entry)) c n (now (cache .entry)) (now (words .exit))
         (now (starts .exit)) (now (cache .exit)) r ⌝ }
+    ensures { λ r. ⌜ CoversAfter (now (words .exit)) (now (starts .exit)) r (now (filter .exit)) ⌝ }
 {
     let kind = kind_at(words, starts, c, wide(n));
     if (kind == Head::UNION) | (kind == Head::INTERSECTION) {
-        return flatten_set_op_cached(words, starts, c, n, kind, cache);
+        return flatten_set_op_cached(words, starts, c, n, kind, cache, filter);
     }
     let mut list = all_children(words, starts, c, n);
     let count = list.count;
-    let r = normalize_each(words, starts, c, n, &mut list.items, count, cache);
+    let r = normalize_each(words, starts, c, n, &mut list.items, count, cache, filter);
     let Run::Went(d) = r else {
         return Interned::Refused(r.refusal());
     };
-    rebuild(words, starts, d, n, &list.items, count)
+    rebuild(words, starts, d, n, &list.items, count, filter)
 }
 
 // A member list: what each member brings is appended before the next is normalized.
@@ -97,10 +104,13 @@ fn flatten_set_op_cached(
     n: u32,
     kind: u32,
     cache: &mut [u32; 4096],
+    filter: &mut [u64; 2048],
 ) -> Interned
     requires { ⌜ ListReady (now words) (now starts) c n kind (now cache) ⌝ }
+    requires { ⌜ CoversLent (now words) (now starts) c (now filter) ⌝ }
     ensures { λ r. ⌜ Does normalize Grown (now (words .entry)) (now (starts .entry)) c n (now (cache .entry)) (now (words .exit))
         (now (starts .exit)) (now (cache .exit)) r ⌝ }
+    ensures { λ r. ⌜ CoversAfter (now (words .exit)) (now (starts .exit)) r (now (filter .exit)) ⌝ }
 {
     let total = member_count(words, starts, c, n);
     let mut list = Members {
@@ -111,7 +121,7 @@ fn flatten_set_op_cached(
     let mut i = 0;
     while i < total {
         let member = member_at(words, starts, last, n, i);
-        let r = normalize_set_ops_cached(words, starts, last, member, cache);
+        let r = normalize_set_ops_cached(words, starts, last, member, cache, filter);
         let held = list.count;
         let b = bring(words, starts, r, kind, &mut list.items, held);
         let Brought::Held(next, d) = b else {
@@ -122,7 +132,7 @@ fn flatten_set_op_cached(
         i += 1;
     }
     let held = list.count;
-    close_list(words, starts, last, kind, &list.items, held)
+    close_list(words, starts, last, kind, &list.items, held, n, filter)
 }
 
 // What each of the first `count` items becomes, in its place; all are below n.
@@ -134,16 +144,19 @@ fn normalize_each(
     items: &mut [u32; 65],
     count: usize,
     cache: &mut [u32; 4096],
+    filter: &mut [u64; 2048],
 ) -> Run
     requires { ⌜ EachReady normalize Grown (now words) (now starts) c n (now items) count (now cache) ⌝ }
+    requires { ⌜ CoversLent (now words) (now starts) c (now filter) ⌝ }
     ensures { λ r. ⌜ DoesEach normalize Grown (now (words .entry)) (now (starts .entry)) c n (now (items .entry)) count (now (cache .entry))
         (now (words .exit)) (now (starts .exit)) (now (items .exit)) (now (cache .exit)) r ⌝ }
+    ensures { λ r. ⌜ CoversRun (now (words .exit)) (now (starts .exit)) r (now (filter .exit)) ⌝ }
 {
     let mut last = c;
     let mut i = 0;
     while i < count {
         let item = item_at(items, i);
-        let r = normalize_set_ops_cached(words, starts, last, item, cache);
+        let r = normalize_set_ops_cached(words, starts, last, item, cache, filter);
         let Interned::Node(m, d) = r else {
             return Run::Refused(r.refusal());
         };

@@ -3,7 +3,7 @@ use Prim.Native.Nat.{ℕ, suc, _*_, _-_, _<_, _≤_}
 use mathlib.Core.Path.{_≡_, refl, sym, ap, _∙_, subst}
 use mathlib.Core.List.{List, []}
 use native.Mathlib.Omega.{arith}
-use lib.ListN.{length, take, drop, length-drop}
+use lib.ListN.{length, take, drop, replicate, length-drop, length-replicate}
 use lib.Seq.{length-take-le}
 use Rattle.types.specs.Out.{Out, ok, refuse, _>>=_}
 use Rattle.types.specs.Arena.{Arena}
@@ -11,9 +11,11 @@ use Rattle.types.specs.Memory.{Holds}
 use Rattle.types.specs.declared.Counters.{Counters}
 use Rattle.node_store.specs.declared.added.Interned.{Interned}
 use Rattle.node_store.specs.declared.added.Interned.the-variants as interned
+use Rattle.node_filter.specs.Inner.Filter.{CoversLent, CoversAfter}
+use Rattle.node_filter.proofs.Filters.{covers-empty}
 use Rattle.names.proofs.Walking.{part}
 use Rattle.sheet_reading.specs.Sheet.{words, node-words, added, node, nodes}
-use Rattle.sheet_reading.specs.Inner.Steps.{ReadsWords, Stretch, Copied, Adds, AddsNode, Stores, to, stop, Ready, StoresNode, ReadyEmpty, StoresNodes}
+use Rattle.sheet_reading.specs.Inner.Steps.{ReadsWords, Stretch, Copied, Adds, AddsNode, Stores, to, stop, Ready, StoresNode, CoversNodes, ReadyEmpty, StoresNodes}
 use Rattle.sheet_reading.specs.Inner.Steps as steps
 use Rattle.sheet_reading.specs.declared.bytes.Place.{Place}
 use Rattle.sheet_reading.specs.declared.bytes.Place.the-variants as place
@@ -136,22 +138,33 @@ module _ {bytes : List ℕ} {at : ℕ} {r : Place} (R : ReadsWords bytes at r) w
               stored-to (node-next (length w) (length s) table a (drop at bytes) read (B .is)) (G .high) (B .holds);
         }
 
+-- ---- the filter
+pub nodes-refused : {w s : List ℕ} {e : ℕ} {f : List ℕ} → CoversNodes w s (stored.Refused e) f
+nodes-refused = record { is = λ i d q. let z : _≡_ {A = ℕ} 0 1 = cc in absurd (omega arith) }
+
+pub nodes-told : {w s f : List ℕ} {i : Interned} {n e : ℕ} {d : Counters} → CoversAfter w s i f → i ≡ interned.Node n d → CoversNodes w s (stored.To e d) f
+nodes-told {w} {s} {f} {n = n} {d = d} C q = record { is = λ k g p. let u : d ≡ g = cc in subst (λ (h : Counters). CoversLent w s h f) u (C .is n d q) }
+
 -- ---- the loop
-pub record Turn (bytes : List ℕ) (first : ℕ) (w₀ s₀ : List ℕ) (table count : ℕ) (w s : List ℕ) (at : ℕ) (c : Counters) (left : ℕ) : Type 0 where
+pub record Turn (bytes : List ℕ) (first : ℕ) (w₀ s₀ : List ℕ) (table count : ℕ) (w s : List ℕ) (at : ℕ) (c : Counters) (left : ℕ) (filter : List ℕ) : Type 0 where
   pub words-long : length w ≡ length w₀
   pub starts-long : length s ≡ length s₀
   pub arena : Arena
   pub holds : Holds table w s c arena
   pub inside : at ≤ length bytes
+  pub covers : CoversLent w s c filter
   pub same : nodes (length w₀) (length s₀) table count [] (drop first bytes) ≡ nodes (length w₀) (length s₀) table left arena (drop at bytes)
 
 module _ {bytes : List ℕ} {first : ℕ} {w₀ s₀ : List ℕ} {table count : ℕ} where
-  pub turn-start : ReadyEmpty bytes first table w₀ s₀ → Turn bytes first w₀ s₀ table count w₀ s₀ first (record { nodes = 0; words = 0 }) count
-  turn-start E = record { words-long = refl; starts-long = refl; arena = []; holds = E .holds; inside = E .inside; same = refl }
+  pub turn-start : ReadyEmpty bytes first table w₀ s₀ → Turn bytes first w₀ s₀ table count w₀ s₀ first (record { nodes = 0; words = 0 }) count (replicate 2048 0)
+  turn-start E = record { words-long = refl; starts-long = refl; arena = []; holds = E .holds; inside = E .inside; covers = covers-empty (E .holds) (length-replicate {A = ℕ} 2048 0); same = refl }
 
-  module _ {w s : List ℕ} {at : ℕ} {c : Counters} {left : ℕ} (T : Turn bytes first w₀ s₀ table count w s at c left) where
+  module _ {w s : List ℕ} {at : ℕ} {c : Counters} {left : ℕ} {filter : List ℕ} (T : Turn bytes first w₀ s₀ table count w s at c left filter) where
     pub turn-ready : Ready bytes at table w s c
     turn-ready = record { inside = T .inside; view = T .arena; holds = T .holds }
+
+    pub turn-covered : CoversLent w s c filter
+    turn-covered = T .covers
 
     module _ (h : 0 < left) {w′ s′ : List ℕ} {r : Nodes} (N : StoresNode bytes at table w s c w′ s′ r) where
       one : Stores bytes table w′ s′ r (node (length w₀) (length s₀) table (T .arena) (drop at bytes))
@@ -165,8 +178,8 @@ module _ {bytes : List ℕ} {first : ℕ} {w₀ s₀ : List ℕ} {table count : 
       pub turn-stop : {e : ℕ} → r ≡ stored.Refused e → StoresNodes bytes first table count w₀ s₀ w′ s′ r
       turn-stop p = subst (StoresNodes bytes first table count w₀ s₀ w′ s′) (sym p) (record { is = stored-stop (nodes-here (nodes-stop (length w₀) (length s₀) table (T .arena) (drop at bytes) (left - 1) (stores-stop one p))) })
 
-      pub turn-more : {e : ℕ} {d : Counters} → r ≡ stored.To e d → length w′ ≡ length w → length s′ ≡ length s → Turn bytes first w₀ s₀ table count w′ s′ e d (left - 1)
-      turn-more p lw ls =
+      pub turn-more : {e : ℕ} {d : Counters} {filter′ : List ℕ} → CoversNodes w′ s′ r filter′ → r ≡ stored.To e d → length w′ ≡ length w → length s′ ≡ length s → Turn bytes first w₀ s₀ table count w′ s′ e d (left - 1) filter′
+      turn-more {e} {d} C p lw ls =
           let S = stores-to one p in
           record {
             words-long = lw ∙ T .words-long;
@@ -174,6 +187,7 @@ module _ {bytes : List ℕ} {first : ℕ} {w₀ s₀ : List ℕ} {table count : 
             arena = S .arena;
             holds = S .holds;
             inside = S .high;
+            covers = C .is e d p;
             same = nodes-here (nodes-next (length w₀) (length s₀) table (T .arena) (drop at bytes) (left - 1) (S .is));
           }
 

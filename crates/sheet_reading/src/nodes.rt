@@ -3,14 +3,15 @@ use crate::bytes::Place;
 use crate::bytes::word;
 use node_faults::fault;
 use node_faults::head_fits;
+use node_filter::intern_filtered;
 use node_store::added::Interned;
-use node_store::added::intern_node;
 use types::Counters;
 use types::arc_ty::Head;
 use types::arc_ty::wide;
 ghost use mathlib.Core.Path.{_≡_};
 ghost use Rattle.types.specs.Out.{number};
 ghost use Rattle.node_store.specs.Inner.Added.{Under};
+ghost use Rattle.node_filter.specs.Inner.Filter.{CoversLent, CoversAfter};
 ghost use Rattle.sheet_reading.specs.Inner.Steps.{
   nodes-out,
   Here,
@@ -20,6 +21,7 @@ ghost use Rattle.sheet_reading.specs.Inner.Steps.{
   AddsNode,
   Ready,
   StoresNode,
+  CoversNodes,
   ReadyEmpty,
   StoresNodes,
 };
@@ -80,23 +82,26 @@ fn copy_words(bytes: &[u8], node: &mut [u32; 66]) -> usize
     count
 }
 
-// Adds the node with these words, which must be without fault and new.
+// Adds the node with these words, which must be without fault and new; the nodes of the arena are in the filter.
 fn add_node(
     words: &mut [u32],
     starts: &mut [u32],
     c: Counters,
     names: usize,
     node: &[u32],
+    filter: &mut [u64; 2048],
 ) -> Interned
     requires { ⌜ Under names (now words) (now starts) c ⌝ }
+    requires { ⌜ CoversLent (now words) (now starts) c (now filter) ⌝ }
     ensures { λ r. ⌜ AddsNode names (now (words .entry)) (now (starts .entry)) c (now (node .entry)) (now (words .exit))
         (now (starts .exit)) r ⌝ }
+    ensures { λ r. ⌜ CoversAfter (now (words .exit)) (now (starts .exit)) r (now (filter .exit)) ⌝ }
 {
     let number = fault(node, c.nodes, names);
     if number != 0 {
         return Interned::Refused(number);
     }
-    let interned = intern_node(words, starts, c, node);
+    let interned = intern_filtered(words, starts, c, node, filter);
     let Interned::Node(n, d) = interned else {
         return interned;
     };
@@ -114,10 +119,13 @@ fn read_node(
     starts: &mut [u32],
     c: Counters,
     names: usize,
+    filter: &mut [u64; 2048],
 ) -> Nodes
     requires { ⌜ Ready (now bytes) at names (now words) (now starts) c ⌝ }
+    requires { ⌜ CoversLent (now words) (now starts) c (now filter) ⌝ }
     ensures { λ r. ⌜ StoresNode (now (bytes .entry)) at names (now (words .entry)) (now (starts .entry)) c (now (words .exit))
         (now (starts .exit)) r ⌝ }
+    ensures { λ r. ⌜ CoversNodes (now (words .exit)) (now (starts .exit)) r (now (filter .exit)) ⌝ }
 {
     let place = node_end(bytes, at);
     let Place::At(end) = place else {
@@ -125,7 +133,7 @@ fn read_node(
     };
     let mut node = [0u32; 66];
     let count = copy_words(&bytes[at..end], &mut node);
-    let interned = add_node(words, starts, c, names, &node[..count]);
+    let interned = add_node(words, starts, c, names, &node[..count], filter);
     let Interned::Node(_, d) = interned else {
         return Nodes::Refused(interned.refusal());
     };
@@ -148,8 +156,9 @@ pub(crate) fn read_nodes(
     let mut at = first;
     let mut c = Counters { nodes: 0, words: 0 };
     let mut left = count;
+    let mut filter = [0u64; 2048];
     while left > 0 {
-        let next = read_node(bytes, at, words, starts, c, names);
+        let next = read_node(bytes, at, words, starts, c, names, &mut filter);
         let Nodes::To(end, d) = next else {
             return next;
         };

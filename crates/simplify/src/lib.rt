@@ -1,4 +1,5 @@
 // `simplify`: one pass, then more until one changes nothing.
+use node_filter::set_all_bits;
 use node_store::added::Interned;
 use pass::once::simplify_once;
 use recursion::take_back_nodes;
@@ -9,6 +10,7 @@ use types::arc_ty::wide;
 ghost use mathlib.Core.Path.{_≡_};
 ghost use Rattle.types.specs.Out.{number};
 ghost use Rattle.node_store.specs.Inner.Stored.{Lent, InRange};
+ghost use Rattle.node_filter.specs.Inner.Filter.{CoversLent};
 ghost use Rattle.simplify.specs.Simplify.{simplified-out, Promise};
 ghost use Rattle.simplify.specs.Inner.{PassRoom, MorePasses, Simplifies, SimplifiesLent};
 
@@ -41,8 +43,10 @@ fn more_passes(
     root: u32,
     most: u32,
     made: u32,
+    filter: &mut [u64; 2048],
 ) -> Simplified
     requires { ⌜ PassRoom (now words) (now starts) c root most made ⌝ }
+    requires { ⌜ CoversLent (now words) (now starts) c (now filter) ⌝ }
     ensures { λ r. ⌜ MorePasses (now (words .entry)) (now (starts .entry)) c root most made (now (words .exit)) (now (starts .exit)) r ⌝ }
 {
     let mut ty = root;
@@ -50,7 +54,7 @@ fn more_passes(
     let mut count = made;
     let mut left = most;
     while left > 0 {
-        let r = simplify_once(words, starts, last, ty);
+        let r = simplify_once(words, starts, last, ty, filter);
         let Interned::Node(next, d) = r else {
             return Simplified::Refused(r.refusal());
         };
@@ -70,11 +74,13 @@ pub fn simplify_in(words: &mut [u32], starts: &mut [u32], c: Counters, root: u32
     requires { ⌜ InRange (now words) (now starts) c root ⌝ }
     ensures { λ r. ⌜ Simplifies (now (words .entry)) (now (starts .entry)) c root (now (words .exit)) (now (starts .exit)) r ⌝ }
 {
-    let r = simplify_once(words, starts, c, root);
+    let mut filter = [0u64; 2048];
+    set_all_bits(words, starts, c, &mut filter);
+    let r = simplify_once(words, starts, c, root, &mut filter);
     let Interned::Node(m, d) = r else {
         return Simplified::Refused(r.refusal());
     };
-    more_passes(words, starts, d, m, MORE_PASSES, 1)
+    more_passes(words, starts, d, m, MORE_PASSES, 1, &mut filter)
 }
 
 // The same for any root; a refusal takes back the nodes that were added.

@@ -7,7 +7,7 @@ use native.Mathlib.Omega.{arith}
 use native.Mathlib.Numerals.{add-one}
 use mir.Syntax.{w64}
 use mir.Val.{Fits}
-use lib.ListN.{length, getD, take, drop, replicate, length-append, length-drop, take-append-drop}
+use lib.ListN.{length, getD, take, drop, replicate, length-append, length-drop, length-replicate, take-append-drop}
 use lib.Seq.{getD-drop, take-at, drop-at, take-all, take-add, take-suc, length-take-le}
 use lib.Dec.{eqb}
 use borrow.Author.Tests.{eqb-true, eqb-false, not-true, not-false}
@@ -24,13 +24,14 @@ use Rattle.types.proofs.Nodes.{guess-encode, length-encode}
 use Rattle.types.proofs.Decodes.{well-parts, decode-ok, faultless}
 use Rattle.types.proofs.Growth.{ext-tail, ext-length}
 use Rattle.types.proofs.Sound.{sound-well, sound-fresh, sound-more, sound-ext}
-use Rattle.types.proofs.Memories.{span-encode, arena-of-holds, unsound}
+use Rattle.types.proofs.Memories.{span-encode, arena-of-holds, unique, unsound}
 use Rattle.types.proofs.Addresses.{length-heads, ext-flat, word-room, start-room, there, start-at, from-start}
 use Rattle.node_store.specs.Inner.Stored.{Searched, FoundIn, found-at}
-use Rattle.bits.specs.Bits.{Put}
-use Rattle.soundness.specs.Inner.Hash.{hash-of}
-use Rattle.soundness.specs.Inner.Sound.{is-some, is-sound, Limits, Within, Begun, Passed, Seen, Marked, Filtered, NextNode, Next}
-use Rattle.soundness.proofs.Hashes.{seen-start, seen-more}
+use Rattle.node_filter.specs.Inner.Hash.{hash-of}
+use Rattle.node_filter.specs.Inner.Filter.{Sets, Covers, CoversLent}
+use Rattle.node_filter.proofs.Filters.{covers-none, covers-more}
+use Rattle.soundness.specs.Inner.Sound.{is-some, is-sound, Limits, Within}
+use Rattle.soundness.specs.Inner.Reading.{Begun, Passed, Marked, NextNode, Next, NextSets}
 use Rattle.node_store.specs.declared.stored.Found.{Found}
 use Rattle.node_store.specs.declared.stored.Found.the-variants as found
 
@@ -173,10 +174,9 @@ module _ {table : ℕ} {w s : List ℕ} {c : Counters} {n at : ℕ} where
       let D = faultless table n (judged w at y) (sym p ∙ z) in
       record { lent = record { table = table; view = P .view; holds = P .begun }; headed = omega (arith, ap length (D .is .words), length-encode (D .node)) }
 
-  -- and the hashes of the nodes read are in the set
-  pub next-filtered : (y : ℕ) {f : ℕ} {seen : List ℕ} → Marked table w s c n at seen → f ≡ number (decode table n (judged w at y)) → f ≡ 0 → Filtered (take at w) (take n s) (record { nodes = n; words = at }) (judged w at y) seen
-  unfolding next-searched
-  next-filtered y M p z = record { searched = next-searched y (M .passed) p z; marks = M .marks }
+  -- and the bits of the nodes read are set
+  pub next-covered : {filter : List ℕ} → Marked table w s c n at filter → CoversLent (take at w) (take n s) (record { nodes = n; words = at }) filter
+  next-covered {filter} M = record { long = M .covers .long; is = λ t a H. subst (Covers filter) (unique (M .passed .begun) H) (M .covers) }
 
   module _ {y : ℕ} (e : y ≡ head-count (getD w at 0)) where
     pub next-fault : {r : ℕ} → r ≡ number (decode table n (judged w at y)) → (r ≡ 0 → ⊥) → Next table w s c n at 0
@@ -364,30 +364,35 @@ module _ {table : ℕ} {w s : List ℕ} {c : Counters} where
             let q : length (P .view) ≡ length b = omega (arith, P .turn, H .nodes, P .begun .nodes) in
             eqb-false at (c .words) e (P .begun .total ∙ ap (λ (d : Arena). length (flat d)) (ext-same (U .only b H) here q) ∙ sym (H .total)))))
 
--- ---- with the set of their hashes
-pub record Reading (table : ℕ) (w s : List ℕ) (c : Counters) (n at : ℕ) (seen : List ℕ) : Type 0 where
+-- ---- with their bits set
+pub record Reading (table : ℕ) (w s : List ℕ) (c : Counters) (n at : ℕ) (filter : List ℕ) : Type 0 where
   pub upto : Upto table w s c n at
-  pub marks : Seen seen (upto .passed .view)
+  pub covers : Covers filter (upto .passed .view)
 
 module _ {table : ℕ} {w s : List ℕ} {c : Counters} where
-  pub reading-start : Limits w s c → Reading table w s c 0 0 (replicate 1024 0)
+  pub reading-start : Limits w s c → Reading table w s c 0 0 (replicate 2048 0)
   unfolding upto-start
-  reading-start L = record { upto = upto-start L; marks = seen-start }
+  reading-start L = record { upto = upto-start L; covers = covers-none (length-replicate {A = ℕ} 2048 0) }
 
-  module _ {n at : ℕ} {seen : List ℕ} (R : Reading table w s c n at seen) where
-    pub reading-marked : Marked table w s c n at seen
-    reading-marked = record { passed = R .upto .passed; marks = R .marks }
+  module _ {n at : ℕ} {filter : List ℕ} (R : Reading table w s c n at filter) where
+    pub reading-marked : Marked table w s c n at filter
+    reading-marked = record { passed = R .upto .passed; covers = R .covers }
 
     module _ {r : ℕ} (N : Next table w s c n at r) (z : r ≡ 0 → ⊥) where
-      pub node-end : at + r ≤ length w
-      node-end = omega (arith, it (R .upto) N z .room, R .upto .passed .limits .word-room)
-
-      pub reading-more : {x h : ℕ} {t : List ℕ} → n < c .nodes → x ≡ getD s n 0 → x ≡ at → h ≡ hash-of (take (at + r - at) (drop at w)) → Put seen h t → Reading table w s c (n + 1) (at + r) t
+      pub reading-more : {x : ℕ} {filter′ : List ℕ} → NextSets w at filter r filter′ → n < c .nodes → x ≡ getD s n 0 → x ≡ at → Reading table w s c (n + 1) (at + r) filter′
       unfolding upto-more
-      reading-more h e q p u =
-          let k : at + r - at ≡ r = omega arith in
+      reading-more S h e q =
           let I = it (R .upto) N z in
           record {
             upto = upto-more (R .upto) N z h e q;
-            marks = seen-more (I .node) (R .marks) (p ∙ ap (λ (i : ℕ). hash-of (take i (drop at w))) k ∙ ap hash-of (I .words)) u;
+            covers = covers-more (S .is z) (I .node) (R .covers) (ap hash-of (I .words));
           }
+
+-- ---- the bits that are set with a node
+pub none-set : {w : List ℕ} {at : ℕ} {filter filter′ : List ℕ} → NextSets w at filter 0 filter′
+none-set = record { is = λ z. absurd (z refl) }
+
+pub node-set : {w : List ℕ} {at : ℕ} (y : ℕ) {h : ℕ} {filter filter′ : List ℕ} → h ≡ hash-of (judged w at y) → Sets filter h filter′ → NextSets w at filter (1 + y) filter′
+node-set {w} {at} y {filter = filter} {filter′} e S =
+    let l : at + (1 + y) - at ≡ 1 + y = omega arith in
+    record { is = λ z. subst (λ (k : ℕ). Sets filter k filter′) (e ∙ ap (λ (i : ℕ). hash-of (take i (drop at w))) l) S }

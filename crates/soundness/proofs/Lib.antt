@@ -1,4 +1,3 @@
-pub mod Hashes
 pub mod Zeros
 pub mod Checks
 pub mod Verdicts

@@ -1,2 +1,3 @@
-pub mod Hash
 pub mod Sound
+pub mod Zero
+pub mod Reading

@@ -1,22 +1,22 @@
 // Whether lent memory holds an arena: `judge` is the first step of every call that is lent one.
-use bits::put_row;
-use bits::test_row;
 use names::Table;
 use names::check_names;
 use node_faults::fault;
+use node_filter::find_filtered;
+use node_filter::hash;
+use node_filter::set_bits;
 use node_store::stored::Found;
-use node_store::stored::find;
 use types::Counters;
 use types::arc_ty::Head;
 use types::arc_ty::wide;
 ghost use mathlib.Core.Path.{_≡_};
 ghost use Rattle.types.specs.Node.{below};
-ghost use Rattle.node_store.specs.Inner.Stored.{FoundIn};
-ghost use Rattle.soundness.specs.Inner.Hash.{mixed, hash-of};
-ghost use Rattle.soundness.specs.Inner.Sound.{is-sound, Limits, Within, Marked, Filtered, Next, lent-reply, judged-out};
+ghost use Rattle.soundness.specs.Inner.Sound.{is-sound, Limits, Within, lent-reply, judged-out};
+ghost use Rattle.soundness.specs.Inner.Zero.{Alike, four-zero};
+ghost use Rattle.soundness.specs.Inner.Reading.{Marked, Next, NextSets};
 
 // Whether every word is zero. No word ends the loop early, so that the compiler can take several in a turn.
-fn all_zero(words: &[u32]) -> bool
+fn few_zero(words: &[u32]) -> bool
     ensures { λ r. ⌜ r ≡ below 1 (now (words .entry)) ⌝ }
 {
     let mut ones: u32 = 0;
@@ -26,6 +26,31 @@ fn all_zero(words: &[u32]) -> bool
         i += 1;
     }
     ones == 0
+}
+
+// The same of four stretches of one length, in one loop: the compiler then has four to take in turn.
+fn four_zero(a: &[u32], b: &[u32], c: &[u32], d: &[u32]) -> bool
+    requires { ⌜ Alike (now a) (now b) (now c) (now d) ⌝ }
+    ensures { λ r. ⌜ r ≡ four-zero (now (a .entry)) (now (b .entry)) (now (c .entry)) (now (d .entry)) ⌝ }
+{
+    let mut ones: u32 = 0;
+    let mut i = 0;
+    while i < a.len() {
+        ones = ones | a[i] | b[i] | c[i] | d[i];
+        i += 1;
+    }
+    ones == 0
+}
+
+// The same of many words: four quarters, and the few that are left.
+fn all_zero(words: &[u32]) -> bool
+    ensures { λ r. ⌜ r ≡ below 1 (now (words .entry)) ⌝ }
+{
+    let q = words.len() / 4;
+    let b = &words[q..];
+    let c = &b[q..];
+    let d = &c[q..];
+    four_zero(&words[..q], &b[..q], &c[..q], &d[..q]) & few_zero(&d[q..])
 }
 
 // Whether lent memory keeps the limits, and what is unused in it is zero.
@@ -52,39 +77,8 @@ fn within(words: &[u32], starts: &[u32], c: Counters) -> bool
     all_zero(&starts[nodes..])
 }
 
-// One more word of a node in its hash. The factor is 2^32 over the square of the golden ratio: products of near numbers lie far apart.
-fn mix(x: u32, h: u32) -> u32
-    ensures { λ r. ⌜ r ≡ mixed x h ⌝ }
-{
-    let sum = (x as u64) + (h as u64);
-    (sum * 1640531527 / 65536 % 65536) as u32
-}
-
-// A number below 65,536 that equal nodes share.
-fn hash(node: &[u32]) -> u32
-    ensures { λ r. ⌜ r ≡ hash-of (now (node .entry)) ⌝ }
-{
-    let mut h: u32 = 0;
-    let mut i = node.len();
-    while i > 0 {
-        i -= 1;
-        h = mix(node[i], h);
-    }
-    h
-}
-
-// `find` among nodes whose hashes are in the set `seen`: where the hash of `node` isn't, there is no need to search.
-fn find_seen(words: &[u32], starts: &[u32], c: Counters, node: &[u32], seen: &[u64]) -> Found
-    requires { ⌜ Filtered (now words) (now starts) c (now node) (now seen) ⌝ }
-    ensures { λ r. ⌜ FoundIn (now (words .entry)) (now (starts .entry)) c (now (node .entry)) r ⌝ }
-{
-    if !test_row(seen, hash(node)) {
-        return Found::Nothing;
-    }
-    find(words, starts, c, node)
-}
-
-// How many words the node takes that begins at `at` and may follow the n nodes before it; or 0.
+// How many words the node takes that begins at `at` and may follow the n nodes before it, which are in the filter, as it is then;
+// or 0.
 fn next_node(
     words: &[u32],
     starts: &[u32],
@@ -92,10 +86,11 @@ fn next_node(
     names: usize,
     n: usize,
     at: usize,
-    seen: &[u64],
+    filter: &mut [u64; 2048],
 ) -> usize
-    requires { ⌜ Marked names (now words) (now starts) c n at (now seen) ⌝ }
+    requires { ⌜ Marked names (now words) (now starts) c n at (now filter) ⌝ }
     ensures { λ r. ⌜ Next names (now (words .entry)) (now (starts .entry)) c n at r ⌝ }
+    ensures { λ r. ⌜ NextSets (now (words .entry)) at (now (filter .entry)) r (now (filter .exit)) ⌝ }
 {
     let used = c.words;
     if at >= used {
@@ -115,10 +110,12 @@ fn next_node(
         nodes: n,
         words: at,
     };
-    let found = find_seen(&words[..at], &starts[..n], older, node, seen);
-    if let Found::At(i) = found {
+    let h = hash(node);
+    let found = find_filtered(&words[..at], &starts[..n], older, node, h, filter);
+    if let Found::At(_) = found {
         return 0;
     }
+    set_bits(filter, h);
     len
 }
 
@@ -127,21 +124,18 @@ fn nodes_sound(words: &[u32], starts: &[u32], c: Counters, names: usize) -> bool
     requires { ⌜ Limits (now words) (now starts) c ⌝ }
     ensures { λ r. ⌜ r ≡ is-sound names (now (words .entry)) (now (starts .entry)) c ⌝ }
 {
-    let mut seen = [0u64; 1024];
+    let mut filter = [0u64; 2048];
     let mut at = 0;
     let mut n = 0;
     while n < c.nodes {
         if wide(starts[n]) != at {
             return false;
         }
-        let len = next_node(words, starts, c, names, n, at, &seen);
+        let len = next_node(words, starts, c, names, n, at, &mut filter);
         if len == 0 {
             return false;
         }
-        let end = at + len;
-        let node = &words[at..end];
-        put_row(&mut seen, hash(node));
-        at = end;
+        at += len;
         n += 1;
     }
     at == c.words

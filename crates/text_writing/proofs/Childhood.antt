@@ -18,9 +18,9 @@ use Rattle.types.proofs.Faults.{children-encode}
 use Rattle.types.proofs.Sound.{at-formed, child-lower}
 use Rattle.names.specs.Table.{split}
 use Rattle.node_store.specs.Inner.Stored.{InRange, NodeAt}
-use Rattle.node_reading.specs.Nodes.{ChildWords}
+use Rattle.node_store.specs.Inner.Children.{ChildWords}
 use Rattle.node_reading.specs.Inner.{KindAt}
-use Rattle.node_reading.proofs.Offspring.{as-many, child-is}
+use Rattle.node_store.proofs.Offspring.{as-many, child-is}
 use Rattle.text_writing.specs.Text.{when, parens, before}
 use Rattle.text_writing.specs.Inner.Writes.{Writes, IsFormed}
 use Rattle.text_writing.specs.Inner.Children.{ChildOf, encloses, IsChild, Encloses, Opens, Closes}

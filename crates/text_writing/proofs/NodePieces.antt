@@ -22,8 +22,8 @@ use Rattle.types.specs.declared.short_text.ShortText.{ShortText}
 use Rattle.types.proofs.Shorts.{text-short}
 use Rattle.names.specs.Table.{Name, split, name-text}
 use Rattle.node_order.proofs.Splits.{body-lent}
-use Rattle.node_reading.specs.Nodes.{ChildWords}
-use Rattle.node_reading.proofs.Offspring.{as-many}
+use Rattle.node_store.specs.Inner.Children.{ChildWords}
+use Rattle.node_store.proofs.Offspring.{as-many}
 use Rattle.text_writing.specs.Text.{when, between, beginning, separator, field-text, field-label, label, parens, set-ending, ending, shown}
 use Rattle.text_writing.specs.Inner.Writes.{Writes, IsFormed}
 use Rattle.text_writing.proofs.Appending.{writes-nothing, writes-then, writes-three}

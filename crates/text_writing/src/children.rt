@@ -2,8 +2,8 @@
 use crate::append_if;
 use crate::pieces::in_parens;
 use crate::pieces::write_before;
-use node_reading::children::child_words;
 use node_reading::nodes::kind_at;
+use node_store::children::child_words;
 use node_store::stored::node_at;
 use types::Counters;
 use types::arc_ty::child;

@@ -12,8 +12,8 @@ use Rattle.types.specs.Node.{Polarity}
 use Rattle.types.specs.Fault.{children-in}
 use Rattle.bits.specs.Bits.{has}
 use Rattle.walks.specs.Inner.Signs.{side, sign-of, turned, flag-after, Rows, Room, Adds, WordChild, AddsSome, AddsWords}
-use Rattle.node_reading.specs.Nodes.{ChildWords}
-use Rattle.node_reading.proofs.Offspring.{no-words, as-many, child-is, child-small}
+use Rattle.node_store.specs.Inner.Children.{ChildWords}
+use Rattle.node_store.proofs.Offspring.{no-words, as-many, child-is, child-small}
 
 -- i children are put in, of those that the body d holds
 pub record Adding (ws : List ℕ) (flag : Bool) (kind : ℕ) (d p q p′ q′ : List ℕ) (i : ℕ) : Type 0 where

@@ -2,7 +2,7 @@
 // each node after all that lead to it, at most once with each sign.
 use bits::put;
 use bits::test;
-use node_reading::children::child_words;
+use node_store::children::child_words;
 use node_store::stored::node_at;
 use types::Counters;
 use types::arc_ty::Head;

@@ -3,6 +3,7 @@ use mathlib.Core.Path.{refl}
 use Rattle.types.proofs.Refusals.{told-on}
 use Rattle.node_store.specs.Intern.{interned-out}
 use Rattle.node_store.specs.declared.added.Interned.the-variants as interned
+use Rattle.copying.proofs.CachedCopies.{none-cached}
 use Rattle.compact.proofs.Clearing.{cleared-ready, cleared-done, cleared-stopped}
 use borrow.Author.Needs.{needs}
 use Rattle.compact.proofs.compact_cleared.Statement.{statement}
@@ -12,7 +13,7 @@ take-back-nodes-requires : tie.Need-take-back-nodes-requires
 take-back-nodes-requires c κs = search needs
 
 compact-inner-requires : tie.Need-compact-inner-requires
-compact-inner-requires c κs = cleared-ready (c .before .before .before .before .before .before .before .before .before .before .before .before .before .before .pre) (c .before .before .before .before .before .before .before .take-back-nodes .ensures .words) (c .before .before .before .before .before .before .before .take-back-nodes .ensures .starts)
+compact-inner-requires c κs = (cleared-ready (c .before .before .before .before .before .before .before .before .before .before .before .before .before .before .pre) (c .before .before .before .before .before .before .before .take-back-nodes .ensures .words) (c .before .before .before .before .before .before .before .take-back-nodes .ensures .starts), none-cached refl)
 
 enum-known-r : tie.Need-enum-known-r
 enum-known-r c = search needs
@@ -33,7 +34,7 @@ same-length-2 : tie.Need-same-length-2
 same-length-2 c = search needs
 
 returns : tie.Need-returns
-returns c = cleared-stopped (c .before .before .before .before .before .before .before .before .before .before .before .before .before .before .before .before .before .before .before .before .before .before .before .before .before .before .before .before .before .pre) (c .before .before .before .before .before .before .before .before .before .before .before .before .before .before .before .before .before .before .before .before .before .before .take-back-nodes .ensures .words) (c .before .before .before .before .before .before .before .before .before .before .before .before .before .before .before .before .before .before .before .before .before .before .take-back-nodes .ensures .starts) (c .before .before .before .before .before .before .before .before .before .before .before .before .before .before .compact-inner .ensures) (told-on interned.Refused interned-out (λ e. refl) (c .before .before .before .before .before .before .before .before .enum-told .given .1) (c .refusal .ensures)) (c .before .before .before .before .before .take-back-nodes2 .ensures .words) (c .before .before .before .before .before .take-back-nodes2 .ensures .starts) (search needs) (search needs)
+returns c = cleared-stopped (c .before .before .before .before .before .before .before .before .before .before .before .before .before .before .before .before .before .before .before .before .before .before .before .before .before .before .before .before .before .pre) (c .before .before .before .before .before .before .before .before .before .before .before .before .before .before .before .before .before .before .before .before .before .before .take-back-nodes .ensures .words) (c .before .before .before .before .before .before .before .before .before .before .before .before .before .before .before .before .before .before .before .before .before .before .take-back-nodes .ensures .starts) (c .before .before .before .before .before .before .before .before .before .before .before .before .before .before .compact-inner .ensures .0) (told-on interned.Refused interned-out (λ e. refl) (c .before .before .before .before .before .before .before .before .enum-told .given .1) (c .refusal .ensures)) (c .before .before .before .before .before .take-back-nodes2 .ensures .words) (c .before .before .before .before .before .take-back-nodes2 .ensures .starts) (search needs) (search needs)
 
 same-length-3 : tie.Need-same-length-3
 same-length-3 c = search needs
@@ -42,7 +43,7 @@ same-length-4 : tie.Need-same-length-4
 same-length-4 c = search needs
 
 returns-2 : tie.Need-returns-2
-returns-2 c = cleared-done (c .before .before .before .before .before .before .before .before .before .before .before .before .before .before .before .before .before .before .before .before .before .before .pre) (c .before .before .before .before .before .before .before .before .before .before .before .before .before .before .before .take-back-nodes .ensures .words) (c .before .before .before .before .before .before .before .before .before .before .before .before .before .before .before .take-back-nodes .ensures .starts) (c .before .before .before .before .before .before .before .compact-inner .ensures) (c .before .r .given .1) (search needs) (search needs)
+returns-2 c = cleared-done (c .before .before .before .before .before .before .before .before .before .before .before .before .before .before .before .before .before .before .before .before .before .before .pre) (c .before .before .before .before .before .before .before .before .before .before .before .before .before .before .before .take-back-nodes .ensures .words) (c .before .before .before .before .before .before .before .before .before .before .before .before .before .before .before .take-back-nodes .ensures .starts) (c .before .before .before .before .before .before .before .compact-inner .ensures .0) (c .before .r .given .1) (search needs) (search needs)
 
 pub compact-cleared-spec : {M : Type 1} → statement M
 compact-cleared-spec =

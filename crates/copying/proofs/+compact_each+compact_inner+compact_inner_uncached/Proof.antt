@@ -10,9 +10,10 @@ use Rattle.recursion.specs.declared.Run.the-variants as run
 use Rattle.recursion.proofs.Remembering.{ready-small, cached-done, remember-room, remembered}
 use Rattle.recursion.proofs.Turns.{Turn, turn-start, turn-item, turn-falls, turn-ready, turn-refused, turn-more, turn-done}
 use Rattle.copying.specs.Copy.{copy}
-use Rattle.copying.specs.Inner.{Source}
+use Rattle.copying.specs.Inner.{Source, AllCached}
 use Rattle.copying.proofs.Caching.{copy-lawful}
-use Rattle.copying.proofs.Nodes.{source-range, uncached-falls, each-falls, children-ready, copy-refused, copy-ready, copy-done}
+use Rattle.copying.proofs.Nodes.{source-range, uncached-falls, each-falls, children-ready, copy-refused, copy-ready}
+use Rattle.copying.proofs.CachedCopies.{cached-same, cached-refused, once-refused, run-refused, run-same, cached-once, copy-new, copy-both}
 use borrow.Fn.Kinds.{In}
 use borrow.Fn.PlainCycle.{Measures, is, falls, and}
 use Rattle.copying.proofs.compact_each.Reads as compact-each
@@ -93,19 +94,19 @@ abbrev compact-inner-uncached-claims : ℕ → compact-inner-uncached-lts.Claims
 compact-inner-uncached-claims t = (all-children-reads.Asked, all-children-reads.Learnt, compact-each-below t, compact-each.Post, Run-refusal-reads.Asked, Run-refusal-reads.Learnt, intern-copy-reads.Asked, intern-copy-reads.Learnt)
 
 abbrev compact-each-Inv-loop : compact-each-lts.InvT-loop
-compact-each-Inv-loop words starts c n items₀ count target-words₀ target-starts₀ cache₀ last₀ i₀ items target-words target-starts cache last i = Turn copy (Source words starts c) target-words₀ target-starts₀ last₀ n items₀ count cache₀ target-words target-starts items cache last i
+compact-each-Inv-loop words starts c n items₀ count target-words₀ target-starts₀ cache₀ last₀ i₀ items target-words target-starts cache last i = Turn copy (Source words starts c) target-words₀ target-starts₀ last₀ n items₀ count cache₀ target-words target-starts items cache last i × AllCached words starts c target-words target-starts last cache
 
 abbrev compact-each-μ-loop : compact-each-lts.MeasureT-loop
 compact-each-μ-loop words starts c n items₀ count target-words₀ target-starts₀ cache₀ last₀ i₀ items target-words target-starts cache last i = count - i
 
 compact-each-loop-holds : (t : ℕ) → compact-each-lts.Need-loop-holds (compact-each-claims t) (compact-each-at t) compact-each.Post compact-each-Inv-loop compact-each-μ-loop
-compact-each-loop-holds t c = search turn-start
+compact-each-loop-holds t c = (search turn-start, search needs)
 
 compact-each-item-at-requires : (t : ℕ) → compact-each-lts.Need-item-at-requires (compact-each-claims t) (compact-each-at t) compact-each.Post compact-each-Inv-loop compact-each-μ-loop
 compact-each-item-at-requires t c κs = search turn-item
 
 compact-each-compact-inner-requires : (t : ℕ) → compact-each-lts.Need-compact-inner-requires (compact-each-claims t) (compact-each-at t) compact-each.Post compact-each-Inv-loop compact-each-μ-loop
-compact-each-compact-inner-requires t c κs = (search turn-falls, search (turn-ready, copy-lawful))
+compact-each-compact-inner-requires t c κs = (search turn-falls, (search (turn-ready, copy-lawful), search needs))
 
 compact-each-enum-known-r : (t : ℕ) → compact-each-lts.Need-enum-known-r (compact-each-claims t) (compact-each-at t) compact-each.Post compact-each-Inv-loop compact-each-μ-loop
 compact-each-enum-known-r t c = search needs
@@ -123,7 +124,7 @@ compact-each-same-length-2 : (t : ℕ) → compact-each-lts.Need-same-length-2 (
 compact-each-same-length-2 t c = search needs
 
 compact-each-returns : (t : ℕ) → compact-each-lts.Need-returns (compact-each-claims t) (compact-each-at t) compact-each.Post compact-each-Inv-loop compact-each-μ-loop
-compact-each-returns t c = turn-refused (c .before .before .before .before .before .before .before .before .before .before .before .before .before .before .loop .inv) (c .before .before .before .before .before .before .before .before .before .before .before .before .before .loop-test .taken) (c .before .before .before .before .before .before .before .before .before .before .before .item-at .ensures) copy-lawful (c .before .before .before .before .before .before .before .compact-inner .ensures) (told-on interned.Refused interned-out (λ e. refl) (c .before .enum-told .given .1) (c .refusal .ensures))
+compact-each-returns t c = (turn-refused (c .before .before .before .before .before .before .before .before .before .before .before .before .before .before .loop .inv .0) (c .before .before .before .before .before .before .before .before .before .before .before .before .before .loop-test .taken) (c .before .before .before .before .before .before .before .before .before .before .before .item-at .ensures) copy-lawful (c .before .before .before .before .before .before .before .compact-inner .ensures .0) (told-on interned.Refused interned-out (λ e. refl) (c .before .enum-told .given .1) (c .refusal .ensures)), run-refused)
 
 compact-each-mul-items : (t : ℕ) → compact-each-lts.Need-mul-items (compact-each-claims t) (compact-each-at t) compact-each.Post compact-each-Inv-loop compact-each-μ-loop
 compact-each-mul-items t c = search needs
@@ -138,7 +139,7 @@ compact-each-loop-less : (t : ℕ) → compact-each-lts.Need-loop-less (compact-
 compact-each-loop-less t c = search needs
 
 compact-each-loop-again : (t : ℕ) → compact-each-lts.Need-loop-again (compact-each-claims t) (compact-each-at t) compact-each.Post compact-each-Inv-loop compact-each-μ-loop
-compact-each-loop-again t c = turn-more (c .before .before .before .before .before .before .before .before .before .before .before .before .before .before .loop .inv) (c .before .before .before .before .before .before .before .before .before .before .before .before .before .loop-test .taken) (c .before .before .before .before .before .before .before .before .before .before .before .item-at .ensures) copy-lawful (c .before .before .before .before .before .before .before .compact-inner .ensures) (c .before .r .given .1) (search needs) (search needs)
+compact-each-loop-again t c = (turn-more (c .before .before .before .before .before .before .before .before .before .before .before .before .before .before .loop .inv .0) (c .before .before .before .before .before .before .before .before .before .before .before .before .before .loop-test .taken) (c .before .before .before .before .before .before .before .before .before .before .before .item-at .ensures) copy-lawful (c .before .before .before .before .before .before .before .compact-inner .ensures .0) (c .before .r .given .1) (search needs) (search needs), c .before .before .before .before .before .before .before .compact-inner .ensures .1 .is _ _ (c .before .r .given .1))
 
 compact-each-same-length-3 : (t : ℕ) → compact-each-lts.Need-same-length-3 (compact-each-claims t) (compact-each-at t) compact-each.Post compact-each-Inv-loop compact-each-μ-loop
 compact-each-same-length-3 t c = search needs
@@ -147,7 +148,7 @@ compact-each-same-length-4 : (t : ℕ) → compact-each-lts.Need-same-length-4 (
 compact-each-same-length-4 t c = search needs
 
 compact-each-returns-2 : (t : ℕ) → compact-each-lts.Need-returns-2 (compact-each-claims t) (compact-each-at t) compact-each.Post compact-each-Inv-loop compact-each-μ-loop
-compact-each-returns-2 t c = search turn-done
+compact-each-returns-2 t c = (search turn-done, search run-same)
 
 compact-inner-cached-requires : (t : ℕ) → compact-inner-lts.Need-cached-requires (compact-inner-claims t) (compact-inner-at t) compact-inner.Post
 compact-inner-cached-requires t c κs = search (ready-small, copy-lawful)
@@ -156,11 +157,11 @@ compact-inner-sub-t15 : (t : ℕ) → compact-inner-lts.Need-sub-t15 (compact-in
 compact-inner-sub-t15 t c = search needs
 
 compact-inner-returns : (t : ℕ) → compact-inner-lts.Need-returns (compact-inner-claims t) (compact-inner-at t) compact-inner.Post
-compact-inner-returns t c = search (cached-done, copy-lawful)
+compact-inner-returns t c = (search (cached-done, copy-lawful), search cached-same)
 
 compact-inner-compact-inner-uncached-requires :
     (t : ℕ) → compact-inner-lts.Need-compact-inner-uncached-requires (compact-inner-claims t) (compact-inner-at t) compact-inner.Post
-compact-inner-compact-inner-uncached-requires t c κs = (search uncached-falls, search needs)
+compact-inner-compact-inner-uncached-requires t c κs = (search uncached-falls, (search needs, (search needs, search needs)))
 
 compact-inner-enum-known-r : (t : ℕ) → compact-inner-lts.Need-enum-known-r (compact-inner-claims t) (compact-inner-at t) compact-inner.Post
 compact-inner-enum-known-r t c = search needs
@@ -175,10 +176,10 @@ compact-inner-same-length-2 : (t : ℕ) → compact-inner-lts.Need-same-length-2
 compact-inner-same-length-2 t c = search needs
 
 compact-inner-returns-2 : (t : ℕ) → compact-inner-lts.Need-returns-2 (compact-inner-claims t) (compact-inner-at t) compact-inner.Post
-compact-inner-returns-2 t c = search needs
+compact-inner-returns-2 t c = (search needs, cached-refused (c .enum-told .given .1))
 
 compact-inner-remember-requires : (t : ℕ) → compact-inner-lts.Need-remember-requires (compact-inner-claims t) (compact-inner-at t) compact-inner.Post
-compact-inner-remember-requires t c κs = search (remember-room copy-lawful (c .before .before .before .before .before .before .before .before .before .before .before .before .before .before .before .before .before .before .before .pre .1) (c .before .before .before .before .before .before .before .before .compact-inner-uncached .ensures))
+compact-inner-remember-requires t c κs = search (remember-room copy-lawful (c .before .before .before .before .before .before .before .before .before .before .before .before .before .before .before .before .before .before .before .pre .1 .0) (c .before .before .before .before .before .before .before .before .compact-inner-uncached .ensures .0))
 
 compact-inner-same-length-3 : (t : ℕ) → compact-inner-lts.Need-same-length-3 (compact-inner-claims t) (compact-inner-at t) compact-inner.Post
 compact-inner-same-length-3 t c = search needs
@@ -187,7 +188,7 @@ compact-inner-same-length-4 : (t : ℕ) → compact-inner-lts.Need-same-length-4
 compact-inner-same-length-4 t c = search needs
 
 compact-inner-returns-3 : (t : ℕ) → compact-inner-lts.Need-returns-3 (compact-inner-claims t) (compact-inner-at t) compact-inner.Post
-compact-inner-returns-3 t c = search (remembered, copy-lawful)
+compact-inner-returns-3 t c = (search (remembered, copy-lawful), cached-once (c .before .before .before .before .before .before .before .before .before .compact-inner-uncached .ensures .1) (c .before .before .before .r .given .1) (c .remember .ensures))
 
 compact-inner-uncached-all-children-requires :
     (t : ℕ) → compact-inner-uncached-lts.Need-all-children-requires (compact-inner-uncached-claims t) (compact-inner-uncached-at t) compact-inner-uncached.Post
@@ -195,7 +196,7 @@ compact-inner-uncached-all-children-requires t c κs = search source-range
 
 compact-inner-uncached-compact-each-requires :
     (t : ℕ) → compact-inner-uncached-lts.Need-compact-each-requires (compact-inner-uncached-claims t) (compact-inner-uncached-at t) compact-inner-uncached.Post
-compact-inner-uncached-compact-each-requires t c κs = (search each-falls, search children-ready)
+compact-inner-uncached-compact-each-requires t c κs = (search each-falls, (search children-ready, search needs))
 
 compact-inner-uncached-enum-known-r : (t : ℕ) → compact-inner-uncached-lts.Need-enum-known-r (compact-inner-uncached-claims t) (compact-inner-uncached-at t) compact-inner-uncached.Post
 compact-inner-uncached-enum-known-r t c = search needs
@@ -214,11 +215,11 @@ compact-inner-uncached-same-length-2 : (t : ℕ) → compact-inner-uncached-lts.
 compact-inner-uncached-same-length-2 t c = search needs
 
 compact-inner-uncached-returns : (t : ℕ) → compact-inner-uncached-lts.Need-returns (compact-inner-uncached-claims t) (compact-inner-uncached-at t) compact-inner-uncached.Post
-compact-inner-uncached-returns t c = copy-refused (c .before .before .before .before .before .before .before .before .before .before .before .before .before .before .before .before .before .pre .1) (c .before .before .before .before .before .before .before .before .before .before .before .before .all-children .ensures) (c .before .before .before .before .before .before .before .compact-each .ensures) (told-on run.Refused run-out (λ e. refl) (c .before .enum-told .given .1) (c .refusal .ensures))
+compact-inner-uncached-returns t c = (copy-refused (c .before .before .before .before .before .before .before .before .before .before .before .before .before .before .before .before .before .pre .1 .0) (c .before .before .before .before .before .before .before .before .before .before .before .before .all-children .ensures) (c .before .before .before .before .before .before .before .compact-each .ensures .0) (told-on run.Refused run-out (λ e. refl) (c .before .enum-told .given .1) (c .refusal .ensures)), once-refused)
 
 compact-inner-uncached-intern-copy-requires :
     (t : ℕ) → compact-inner-uncached-lts.Need-intern-copy-requires (compact-inner-uncached-claims t) (compact-inner-uncached-at t) compact-inner-uncached.Post
-compact-inner-uncached-intern-copy-requires t c κs = copy-ready (c .before .before .before .before .before .before .before .before .before .before .before .before .before .before .before .before .before .before .before .before .before .pre .1) (c .before .before .before .before .before .before .before .before .before .before .before .before .before .before .before .before .all-children .ensures) (c .before .before .before .before .before .before .before .before .before .before .before .compact-each .ensures) (c .before .before .before .before .before .r .given .1)
+compact-inner-uncached-intern-copy-requires t c κs = (copy-ready (c .before .before .before .before .before .before .before .before .before .before .before .before .before .before .before .before .before .before .before .before .before .pre .1 .0) (c .before .before .before .before .before .before .before .before .before .before .before .before .before .before .before .before .all-children .ensures) (c .before .before .before .before .before .before .before .before .before .before .before .compact-each .ensures .0) (c .before .before .before .before .before .r .given .1), copy-new (c .before .before .before .before .before .before .before .before .before .before .before .before .before .before .before .before .before .before .before .before .before .pre .1 .0) (c .before .before .before .before .before .before .before .before .before .before .before .before .before .before .before .before .all-children .ensures) (c .before .before .before .before .before .before .before .before .before .before .before .compact-each .ensures .0) (c .before .before .before .before .before .r .given .1) (c .before .before .before .before .before .before .before .before .before .before .before .before .before .before .before .before .before .before .before .before .before .pre .1 .1 .0) (c .before .before .before .before .before .before .before .before .before .before .before .before .before .before .before .before .before .before .before .before .before .pre .1 .1 .1))
 
 compact-inner-uncached-same-length-3 : (t : ℕ) → compact-inner-uncached-lts.Need-same-length-3 (compact-inner-uncached-claims t) (compact-inner-uncached-at t) compact-inner-uncached.Post
 compact-inner-uncached-same-length-3 t c = search needs
@@ -227,7 +228,7 @@ compact-inner-uncached-same-length-4 : (t : ℕ) → compact-inner-uncached-lts.
 compact-inner-uncached-same-length-4 t c = search needs
 
 compact-inner-uncached-returns-2 : (t : ℕ) → compact-inner-uncached-lts.Need-returns-2 (compact-inner-uncached-claims t) (compact-inner-uncached-at t) compact-inner-uncached.Post
-compact-inner-uncached-returns-2 t c = copy-done (c .before .before .before .before .before .before .before .before .before .before .before .before .before .before .before .before .before .before .before .before .before .before .before .before .before .before .pre .1) (c .before .before .before .before .before .before .before .before .before .before .before .before .before .before .before .before .before .before .before .before .before .all-children .ensures) (c .before .before .before .before .before .before .before .before .before .before .before .before .before .before .before .before .compact-each .ensures) (c .before .before .before .before .before .before .before .before .before .before .r .given .1) (c .before .before .before .before .intern-copy .ensures) (search needs) (search needs) (search needs) (search needs)
+compact-inner-uncached-returns-2 t c = copy-both (c .before .before .before .before .before .before .before .before .before .before .before .before .before .before .before .before .before .before .before .before .before .before .before .before .before .before .pre .1 .0) (c .before .before .before .before .before .before .before .before .before .before .before .before .before .before .before .before .before .before .before .before .before .all-children .ensures) (c .before .before .before .before .before .before .before .before .before .before .before .before .before .before .before .before .compact-each .ensures .0) (c .before .before .before .before .before .before .before .before .before .before .r .given .1) (c .before .before .before .before .before .before .before .before .before .before .before .before .before .before .before .before .compact-each .ensures .1 .is _ (c .before .before .before .before .before .before .before .before .before .before .r .given .1)) (c .before .before .before .before .intern-copy .ensures) (search needs) (search needs) (search needs) (search needs)
 
 pub +compact-each+compact-inner+compact-inner-uncached-spec : {M : Type 1} → statement M
 +compact-each+compact-inner+compact-inner-uncached-spec =

@@ -1,5 +1,5 @@
 -- Two cases: a node without children, and one whose children are exchanged.
-use Rattle.copying.proofs.InternCopies.{copy-here, leaf-fresh, leaf-copied, copy-exchanging, copy-fits, copy-prefix, copy-length, copy-fresh, copied}
+use Rattle.copying.proofs.InternCopies.{copy-here, leaf-fresh, leaf-absent, leaf-copied, copy-exchanging, copy-fits, copy-prefix, copy-length, copy-fresh, copy-absent, copied}
 use borrow.Author.Needs.{needs}
 use Rattle.copying.proofs.intern_copy.Statement.{statement}
 use Rattle.copying.proofs.intern_copy.Tie as tie
@@ -10,8 +10,8 @@ wide-requires c κs = search needs
 node-at-requires : tie.Need-node-at-requires
 node-at-requires c κs = search copy-here
 
-intern-node-requires : tie.Need-intern-node-requires
-intern-node-requires c κs = search leaf-fresh
+add-node-requires : tie.Need-add-node-requires
+add-node-requires c κs = (search leaf-fresh, search leaf-absent)
 
 same-length : tie.Need-same-length
 same-length c = search needs
@@ -31,11 +31,11 @@ add-len c = search copy-fits
 array-share-prefix-new : tie.Need-array-share-prefix-new
 array-share-prefix-new c = search copy-prefix
 
-slice-aggregate-intern-node : tie.Need-slice-aggregate-intern-node
-slice-aggregate-intern-node c = search copy-length
+slice-aggregate-add-node : tie.Need-slice-aggregate-add-node
+slice-aggregate-add-node c = search copy-length
 
-intern-node-requires-2 : tie.Need-intern-node-requires-2
-intern-node-requires-2 c κs = search copy-fresh
+add-node-requires-2 : tie.Need-add-node-requires-2
+add-node-requires-2 c κs = (search copy-fresh, search copy-absent)
 
 same-length-3 : tie.Need-same-length-3
 same-length-3 c = search needs
@@ -52,15 +52,15 @@ intern-copy-spec =
     (tie.spec
     wide-requires
     node-at-requires
-    intern-node-requires
+    add-node-requires
     same-length
     same-length-2
     returns
     exchange-requires
     add-len
     array-share-prefix-new
-    slice-aggregate-intern-node
-    intern-node-requires-2
+    slice-aggregate-add-node
+    add-node-requires-2
     same-length-3
     same-length-4
     returns-2)

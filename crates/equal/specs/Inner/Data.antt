@@ -1,33 +1,41 @@
--- What the functions that compare two nodes' own data answer.
-use Prim.Native.Nat.{ℕ}
+-- What the functions that compare two nodes' own data answer. Of names they are lent a map (`Inner.Names`).
+use Prim.Native.Nat.{ℕ, _+_}
 use mathlib.Core.Path.{_≡_}
-use mathlib.Core.Bool.{Bool, true, _&&_}
-use mathlib.Core.List.{List, map}
-use mathlib.Core.Option.{some}
-use lib.ListN.{length}
+use mathlib.Core.Bool.{Bool, true, false, _&&_, Bool·beq}
+use mathlib.Core.List.{List, [], _∷_}
+use lib.ListN.{length, getD}
 use lib.Dec.{eqb}
 use Rattle.words.specs.Words.{field-optional, field-name}
 use Rattle.types.specs.Same.{same}
-use Rattle.types.specs.Node.{Node, tag, children, encode, formed}
-use Rattle.names.specs.Table.{Name, names-of, name-text}
-use Rattle.equal.specs.Equal.{Spelling, spelling, label-of, spellings-dec, label-dec}
+use Rattle.types.specs.Node.{Node, tag, children, encode, formed, names, below}
+use Rattle.names.specs.Table.{Name}
+use Rattle.equal.specs.Equal.{label-of, label-dec}
+use Rattle.equal.specs.Inner.Names.{Matches}
 
--- a field word besides its child, its name spelt by the bytes of a table
-unfoldable pub spelt : List ℕ → ℕ → Spelling
-unfolding field-optional field-name name-text
-spelt t w = spelling (field-optional w) (name-text t (field-name w))
+-- have two field words the same mark, and names that are one by the map?
+unfoldable pub same-field : List ℕ → ℕ → ℕ → Bool
+unfolding field-optional field-name
+same-field ks v w = Bool·beq (field-optional v) (field-optional w) && eqb (getD ks (field-name v) 0) (field-name w + 1)
 
--- do the field words of two tables spell the same?
-unfoldable pub same-spelt : List ℕ → List ℕ → List ℕ → List ℕ → Bool
-unfolding same spellings-dec spelt
-same-spelt t e u f = same spellings-dec (map (spelt t) e) (map (spelt u) f)
+-- have as many field words, each with the one beside it?
+unfoldable pub same-fields : List ℕ → List ℕ → List ℕ → Bool
+unfolding same-field
+same-fields ks [] [] = true
+same-fields ks [] (w ∷ f) = false
+same-fields ks (v ∷ e) [] = false
+same-fields ks (v ∷ e) (w ∷ f) = same-field ks v w && same-fields ks e f
 
 -- have the two nodes the same label, and as many children?
 unfoldable pub same-data : List Name → Node → List Name → Node → Bool
 unfolding same label-dec
 same-data ns x ms y = same label-dec (label-of ns (tag x)) (label-of ms (tag y)) && eqb (length (children x)) (length (children y))
 
+-- a formed node whose names are of these
+pub record Named (ns : List Name) (x : Node) : Type 0 where
+  pub formed-so : formed x ≡ true
+  pub inside : below (length ns) (names (tag x)) ≡ true
+
 -- r says so of the words of any two nodes
-pub record SameData (t v u w : List ℕ) (r : Bool) : Type 0 where
-  pub is : (ns ms : List Name) (x y : Node) → names-of t ≡ some ns → names-of u ≡ some ms → formed x ≡ true → formed y ≡ true → v ≡ encode x
-      → w ≡ encode y → r ≡ same-data ns x ms y
+pub record SameData (ks v w : List ℕ) (r : Bool) : Type 0 where
+  pub is : (ns ms : List Name) → Matches ns ms ks → (x y : Node) → Named ns x → Named ms y → v ≡ encode x → w ≡ encode y
+      → r ≡ same-data ns x ms y

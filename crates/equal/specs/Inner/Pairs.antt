@@ -15,6 +15,7 @@ use Rattle.types.specs.declared.Counters.{Counters}
 use Rattle.names.specs.Table.{Name, names-of}
 use Rattle.equal.specs.Equal.{label-of, tree, equal}
 use Rattle.equal.specs.Reply.{lent-to, equal-roots}
+use Rattle.equal.specs.Inner.Names.{Matches}
 
 -- p is the partner of node k: its number and one stands at k, where 0 is none
 abbrev pub Pair : List ℕ → ℕ → ℕ → Type 0
@@ -103,27 +104,41 @@ pub record Sides (t w s : List ℕ) (c : Counters) (u v r : List ℕ) (d : Count
   pub left : Side t w s c
   pub right : Side u v r d
 
+-- two sides whose names are matched by a map, of whatever tables
+pub record Mapped (ks w s : List ℕ) (c : Counters) (v r : List ℕ) (d : Counters) : Type 0 where
+  pub left-table : List ℕ
+  pub right-table : List ℕ
+  pub left : Side left-table w s c
+  pub right : Side right-table v r d
+  pub matches : Matches (left .names) (right .names) ks
+
 -- and a node of the left; partners are nodes of the right
-pub record Visiting (t w s : List ℕ) (c : Counters) (u v r : List ℕ) (d : Counters) (n : ℕ) (ps : List ℕ) : Type 0 where
-  pub sides : Sides t w s c u v r d
+pub record Visiting (ks w s : List ℕ) (c : Counters) (v r : List ℕ) (d : Counters) (n : ℕ) (ps : List ℕ) : Type 0 where
+  pub sides : Mapped ks w s c v r d
   pub inside : n < c .nodes
   pub partners : (k p : ℕ) → Pair ps k p → p < d .nodes
   pub long : length ps ≡ 4096
 
-pub record Visited (t w s : List ℕ) (c : Counters) (u v r : List ℕ) (d : Counters) (n : ℕ) (ps qs : List ℕ) (o : Bool) : Type 0 where
-  pub is : (L : Side t w s c) (R : Side u v r d) → Visit (L .names) (L .view) (R .names) (R .view) n ps qs o
+pub record Visited (ks w s : List ℕ) (c : Counters) (v r : List ℕ) (d : Counters) (n : ℕ) (ps qs : List ℕ) (o : Bool) : Type 0 where
+  pub is : (X : Mapped ks w s c v r d) → Visit (X .left .names) (X .left .view) (X .right .names) (X .right .view) n ps qs o
+
+-- two sides so matched with a root each, and no partners yet
+pub record Fresh (ks w s : List ℕ) (c : Counters) (m : ℕ) (v r : List ℕ) (d : Counters) (n : ℕ) (ps : List ℕ) : Type 0 where
+  pub sides : Mapped ks w s c v r d
+  pub left-inside : m < c .nodes
+  pub right-inside : n < d .nodes
+  pub long : length ps ≡ 4096
+  pub none : (k : ℕ) → getD ps k 0 ≡ 0
+
+-- o says whether they are equal
+pub record Decides (ks w s : List ℕ) (c : Counters) (m : ℕ) (v r : List ℕ) (d : Counters) (n : ℕ) (o : Bool) : Type 0 where
+  pub is : (X : Mapped ks w s c v r d) → o ≡ equal (X .left .names) (X .left .view) m (X .right .names) (X .right .view) n
 
 -- both sides with a root each
 pub record Roots (t w s : List ℕ) (c : Counters) (m : ℕ) (u v r : List ℕ) (d : Counters) (n : ℕ) : Type 0 where
   pub sides : Sides t w s c u v r d
   pub left-inside : m < c .nodes
   pub right-inside : n < d .nodes
-
--- and no partners yet
-pub record Fresh (t w s : List ℕ) (c : Counters) (m : ℕ) (u v r : List ℕ) (d : Counters) (n : ℕ) (ps : List ℕ) : Type 0 where
-  pub roots : Roots t w s c m u v r d n
-  pub long : length ps ≡ 4096
-  pub none : (k : ℕ) → getD ps k 0 ≡ 0
 
 -- o says whether they are equal
 pub record Tells (t w s : List ℕ) (c : Counters) (m : ℕ) (u v r : List ℕ) (d : Counters) (n : ℕ) (o : Bool) : Type 0 where

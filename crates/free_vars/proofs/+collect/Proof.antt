@@ -12,7 +12,7 @@ use Rattle.free_vars.proofs.+collect.Lts-collect as collect-lts
 use Rattle.bits.proofs.put.Reads as put-reads
 use Rattle.bits.proofs.test.Reads as test-reads
 use Rattle.free_vars.proofs.add_var.Reads as add-var-reads
-use Rattle.node_reading.proofs.children.child_words.Reads as child-words-reads
+use Rattle.node_store.proofs.children.child_words.Reads as child-words-reads
 use Rattle.node_store.proofs.stored.node_at.Reads as node-at-reads
 use Rattle.words.proofs.arc_ty.Head.kind.Reads as kind-reads
 use Rattle.words.proofs.arc_ty.child.Reads as child-reads

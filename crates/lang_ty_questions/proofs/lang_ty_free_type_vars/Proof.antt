@@ -1,17 +1,17 @@
--- The list counts where the answer says so; a refusal leaves what was lent.
+-- The variables are listed where they are lent; a refusal leaves what was there.
 use Rattle.lang_ty_questions.proofs.Lists.{tell-list, tell-no-list}
 use borrow.Author.Needs.{needs}
 use Rattle.lang_ty_questions.proofs.lang_ty_free_type_vars.Statement.{statement}
 use Rattle.lang_ty_questions.proofs.lang_ty_free_type_vars.Tie as tie
 
-free-type-vars-requires : tie.Need-free-type-vars-requires
-free-type-vars-requires c κs = search needs
+list-free-type-vars-requires : tie.Need-list-free-type-vars-requires
+list-free-type-vars-requires c κs = search needs
 
-enum-known-answer : tie.Need-enum-known-answer
-enum-known-answer c = search needs
+enum-known-r : tie.Need-enum-known-r
+enum-known-r c = search needs
 
-enum-told : tie.Need-enum-told
-enum-told c = search needs
+enum-known-r-2 : tie.Need-enum-known-r-2
+enum-known-r-2 c = search needs
 
 returns : tie.Need-returns
 returns c = search tell-list
@@ -21,4 +21,4 @@ returns-2 c = search tell-no-list
 
 pub lang-ty-free-type-vars-spec : {M : Type 1} → statement M
 lang-ty-free-type-vars-spec =
-    tie.close (tie.spec free-type-vars-requires enum-known-answer enum-told returns returns-2)
+    tie.close (tie.spec list-free-type-vars-requires enum-known-r enum-known-r-2 returns returns-2)

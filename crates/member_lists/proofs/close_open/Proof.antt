@@ -1,5 +1,6 @@
 -- A 65th member, or the list.
 use Rattle.member_lists.proofs.Closings.{open-flattens, open-full, open-listing, open-finished}
+use Rattle.member_lists.proofs.Covering.{covers-full}
 use borrow.Author.Needs.{needs}
 use Rattle.member_lists.proofs.close_open.Statement.{statement}
 use Rattle.member_lists.proofs.close_open.Tie as tie
@@ -20,10 +21,10 @@ same-length-2 : tie.Need-same-length-2
 same-length-2 c = search needs
 
 returns : tie.Need-returns
-returns c = search open-full
+returns c = (search open-full, covers-full)
 
 finish-requires : tie.Need-finish-requires
-finish-requires c κs = search (open-listing (c .before .before .before .before .before .flatten .ensures))
+finish-requires c κs = (search (open-listing (c .before .before .before .before .before .before .flatten .ensures)), (search needs, search needs))
 
 same-length-3 : tie.Need-same-length-3
 same-length-3 c = search needs
@@ -32,7 +33,7 @@ same-length-4 : tie.Need-same-length-4
 same-length-4 c = search needs
 
 returns-2 : tie.Need-returns-2
-returns-2 c = search open-finished
+returns-2 c = (search open-finished, search needs)
 
 pub close-open-spec : {M : Type 1} → statement M
 close-open-spec =

@@ -16,11 +16,11 @@ add-end c = search needs
 array-share-prefix-node : tie.Need-array-share-prefix-node
 array-share-prefix-node c = search needs
 
-slice-aggregate-intern-node : tie.Need-slice-aggregate-intern-node
-slice-aggregate-intern-node c = search list-cut
+slice-aggregate-intern-near : tie.Need-slice-aggregate-intern-near
+slice-aggregate-intern-near c = search list-cut
 
-intern-node-requires : tie.Need-intern-node-requires
-intern-node-requires c κs = search list-fresh
+intern-near-requires : tie.Need-intern-near-requires
+intern-near-requires c κs = (search list-fresh, (search needs, search needs))
 
 same-length : tie.Need-same-length
 same-length c = search needs
@@ -29,7 +29,7 @@ same-length-2 : tie.Need-same-length-2
 same-length-2 c = search needs
 
 returns : tie.Need-returns
-returns c = search list-interned
+returns c = (search list-interned, search needs)
 
 pub intern-list-spec : {M : Type 1} → statement M
 intern-list-spec =
@@ -39,8 +39,8 @@ intern-list-spec =
     node-words-requires
     add-end
     array-share-prefix-node
-    slice-aggregate-intern-node
-    intern-node-requires
+    slice-aggregate-intern-near
+    intern-near-requires
     same-length
     same-length-2
     returns)

@@ -14,6 +14,7 @@ use Rattle.types.specs.declared.Counters.{Counters}
 use Rattle.node_store.specs.Inner.Stored.{Lent}
 use Rattle.node_store.specs.Intern.{left}
 use Rattle.node_store.specs.declared.added.Interned.{Interned}
+use Rattle.node_filter.specs.Inner.Filter.{CoversLent, CoversAfter}
 use Rattle.recursion.specs.Jobs.{Job}
 use Rattle.simplification.specs.Pass.{gather}
 use Rattle.member_lists.specs.declared.Closed.{Closed}
@@ -35,3 +36,8 @@ pub data ClosesTo (w s : List ℕ) (c : Counters) (w′ s′ : List ℕ) : Close
 pub record Closes (w s : List ℕ) (c : Counters) (kind-number : ℕ) (items : List ℕ) (count : ℕ) (w′ s′ : List ℕ) (r : Closed) : Type 0 where
   pub is : (table : ℕ) (a : Arena) (k : Polarity) (first : Job) → Holds table w s c a → kind-number ≡ disc (kind (members k))
       → ClosesTo w s c w′ s′ r (gather (length w) (length s) k first (take count items) a) (first a)
+
+-- the bits of every node are set then, unless the list was refused; where nothing is left of it the counters are as they were
+pub record CoversClosed (w s : List ℕ) (c : Counters) (r : Closed) (filter : List ℕ) : Type 0 where
+  pub after : (i : Interned) → r ≡ closed.Done i → CoversAfter w s i filter
+  pub empty : r ≡ closed.Empty → CoversLent w s c filter

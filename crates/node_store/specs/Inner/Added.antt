@@ -10,6 +10,8 @@ use Rattle.types.specs.Memory.{Holds}
 use Rattle.types.specs.Reply.{reply-of}
 use Rattle.types.specs.declared.Counters.{Counters}
 use Rattle.node_store.specs.declared.added.Interned.{Interned}
+use Rattle.node_store.specs.declared.stored.Found.the-variants as found
+use Rattle.node_store.specs.Inner.Stored.{FoundIn}
 use Rattle.node_store.specs.Intern.{intern, left}
 
 pub record Room (w : List ℕ) (at : ℕ) (ws : List ℕ) : Type 0 where
@@ -25,6 +27,10 @@ pub record Fresh (w s : List ℕ) (c : Counters) (ws : List ℕ) : Type 0 where
   pub holds : Holds table w s c view
   pub node : Node
   pub is : IsNode table (length view) ws node
+
+-- a search for them finds nothing
+pub record Absent (w s : List ℕ) (c : Counters) (ws : List ℕ) : Type 0 where
+  pub is : FoundIn w s c ws found.Nothing
 
 -- the answer, and memory after, are the definition's
 pub record Interns (w s : List ℕ) (c : Counters) (ws w′ s′ : List ℕ) (r : Interned) : Type 0 where

@@ -1,13 +1,14 @@
 -- What the functions that read stored nodes ask and answer. `table` is the number of names under which memory holds its arena.
-use Prim.Native.Nat.{ℕ, _<_}
+use Prim.Native.Nat.{ℕ, _+_, _<_}
 use mathlib.Core.Path.{_≡_}
 use mathlib.Core.Bool.{Bool, true}
 use mathlib.Core.List.{List}
 use mathlib.Core.Option.{Option, none, some}
-use lib.ListN.{length}
+use lib.ListN.{length, getD}
 use Rattle.types.specs.Same.{same}
 use Rattle.types.specs.Node.{Node, node-dec, encode, formed}
 use Rattle.types.specs.Arena.{Arena, at, find}
+use Rattle.types.specs.Fault.{children-in}
 use Rattle.types.specs.Memory.{Holds}
 use Rattle.types.specs.declared.Counters.{Counters}
 use Rattle.types.specs.declared.Ordering.{Ordering}
@@ -39,6 +40,21 @@ pub record Sought (w s : List ℕ) (c : Counters) (n : ℕ) (ws : List ℕ) : Ty
 -- is node n the one with these words?
 pub record IsThere (w s : List ℕ) (c : Counters) (n : ℕ) (ws : List ℕ) (r : Bool) : Type 0 where
   pub is : (table : ℕ) (a : Arena) (x : Node) → Holds table w s c a → formed x ≡ true → ws ≡ encode x → r ≡ same node-dec x (at a n)
+
+-- the higher of two numbers: one so far, or the one after m
+pub data Later (low m r : ℕ) : Type 0 where
+  kept : r ≡ low → Later low m r
+  taken : r ≡ m + 1 → Later low m r
+
+-- a child in a node's words, whose number is the one before r
+pub record ChildBefore (ws : List ℕ) (r : ℕ) : Type 0 where
+  pub index : ℕ
+  pub inside : index < length (children-in ws)
+  pub is : getD (children-in ws) index 0 + 1 ≡ r
+
+-- r is 0 or comes after a child
+pub record AfterChildren (ws : List ℕ) (r : ℕ) : Type 0 where
+  pub child : 0 < r → ChildBefore ws r
 
 pub record Searched (w s : List ℕ) (c : Counters) (ws : List ℕ) : Type 0 where
   pub lent : Lent w s c

@@ -11,6 +11,7 @@ use Rattle.types.specs.Memory.{flat, heads, Holds}
 use Rattle.types.specs.declared.Counters.{Counters}
 use Rattle.node_store.specs.declared.added.Interned.{Interned}
 use Rattle.node_store.specs.declared.added.Interned.the-variants as interned
+use Rattle.node_filter.specs.Inner.Filter.{CoversLent}
 use Rattle.recursion.specs.Jobs.{Job, each}
 use Rattle.recursion.specs.Inner.Cache.{Cache}
 use Rattle.recursion.specs.declared.Run.{Run}
@@ -83,6 +84,10 @@ pub record DoesEach (F : Recursion) (B : Relation) (w s : List ℕ) (c : Counter
       → Cache (F (length w) (length s) u) (length u) a entries
       → LeadsEach table a (F (length w) (length s) u) (length u) w′ s′ entries′ items′ count r
       (each (F (length w) (length s) u) (take count items) a)
+
+-- the bits of every node that memory holds after a run are set in the filter, unless that was refused
+pub record CoversRun (w s : List ℕ) (r : Run) (filter : List ℕ) : Type 0 where
+  pub is : (d : Counters) → r ≡ run.Went d → CoversLent w s d filter
 
 -- the words before the place stay, and the others are zero
 pub record TakesBack (w : List ℕ) (from : ℕ) (w′ : List ℕ) : Type 0 where

@@ -1,4 +1,5 @@
 -- A root that is a variable, where it is to become the unknown one, and any other.
+use Rattle.renumbering.proofs.VarNodes.{var-fresh}
 use Rattle.renumber.proofs.Calls.{unknown-done, known-done}
 use borrow.Author.Needs.{needs}
 use Rattle.renumber.proofs.normalize_in.Statement.{statement}
@@ -10,8 +11,14 @@ wide-requires c κs = search needs
 kind-at-requires : tie.Need-kind-at-requires
 kind-at-requires c κs = search needs
 
-intern-var-requires : tie.Need-intern-var-requires
-intern-var-requires c κs = search needs
+var-words-requires : tie.Need-var-words-requires
+var-words-requires c κs = search needs
+
+slice-aggregate-intern-node : tie.Need-slice-aggregate-intern-node
+slice-aggregate-intern-node c = search needs
+
+intern-node-requires : tie.Need-intern-node-requires
+intern-node-requires c κs = search var-fresh
 
 same-length : tie.Need-same-length
 same-length c = search needs
@@ -40,7 +47,9 @@ normalize-in-spec =
     (tie.spec
     wide-requires
     kind-at-requires
-    intern-var-requires
+    var-words-requires
+    slice-aggregate-intern-node
+    intern-node-requires
     same-length
     same-length-2
     returns

@@ -1,4 +1,4 @@
--- The list has the variables of the type, and the cache is empty.
+-- The list has the variables of the type, the cache is empty, and the filter has all nodes.
 use Rattle.renumber.proofs.Calls.{vars-none, vars-room, vars-counted, vars-ready, vars-done}
 use borrow.Author.Needs.{needs}
 use Rattle.renumber.proofs.normalize_vars_in.Statement.{statement}
@@ -16,6 +16,9 @@ same-length-2 c = search needs
 returns : tie.Need-returns
 returns c = search vars-none
 
+set-all-bits-requires : tie.Need-set-all-bits-requires
+set-all-bits-requires c κs = search needs
+
 array-share-prefix-vars : tie.Need-array-share-prefix-vars
 array-share-prefix-vars c = search vars-room
 
@@ -23,7 +26,7 @@ slice-aggregate-renumber-node : tie.Need-slice-aggregate-renumber-node
 slice-aggregate-renumber-node c = search vars-counted
 
 renumber-node-requires : tie.Need-renumber-node-requires
-renumber-node-requires c κs = search vars-ready
+renumber-node-requires c κs = (search vars-ready, c .before .before .before .before .before .set-all-bits .ensures)
 
 same-length-3 : tie.Need-same-length-3
 same-length-3 c = search needs
@@ -42,6 +45,7 @@ normalize-vars-in-spec =
     same-length
     same-length-2
     returns
+    set-all-bits-requires
     array-share-prefix-vars
     slice-aggregate-renumber-node
     renumber-node-requires

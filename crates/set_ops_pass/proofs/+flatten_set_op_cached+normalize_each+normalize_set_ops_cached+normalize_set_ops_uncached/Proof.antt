@@ -6,17 +6,20 @@ use borrow.Author.Needs.{needs}
 use Rattle.types.proofs.Refusals.{told-on}
 use Rattle.node_store.specs.Intern.{interned-out}
 use Rattle.node_store.specs.declared.added.Interned.the-variants as interned
+use Rattle.node_filter.specs.Inner.Filter.{CoversLent}
+use Rattle.node_filter.proofs.Filters.{covers-kept, covers-refused, covers-told}
 use Rattle.recursion.specs.Inner.Work.{run-out}
 use Rattle.recursion.specs.declared.Run.the-variants as run
 use Rattle.set_op_lists.specs.Inner.{brought-out}
 use Rattle.set_op_lists.specs.declared.Brought.the-variants as brought
 use Rattle.recursion.specs.Inner.Work.{Grown}
+use Rattle.recursion.proofs.Covering.{covers-stopped, covers-went}
 use Rattle.recursion.proofs.Remembering.{ready-small, cached-done, remember-room, remembered}
 use Rattle.recursion.proofs.Turns.{Turn, turn-start, turn-item, turn-falls, turn-ready, turn-refused, turn-more, turn-done}
 use Rattle.set_op_lists.specs.SetOps.{normalize}
 use Rattle.set_ops_pass.proofs.Normalizing.{lawful}
 use Rattle.set_ops_pass.proofs.Working.{ready-range, ready-wide, each-falls, same-falls, list-ready, children-ready, rebuilding, other-refused, other-done}
-use Rattle.set_ops_pass.proofs.Flattening.{FlatTurn, list-range, flat-start, flat-member, flat-falls, flat-ready, flat-brings, flat-refused, flat-more, flat-filled, flat-done}
+use Rattle.set_ops_pass.proofs.Flattening.{FlatTurn, brought-covers, list-range, flat-start, flat-near, flat-member, flat-falls, flat-ready, flat-brings, flat-refused, flat-more, flat-filled, flat-done}
 use borrow.Fn.Kinds.{In}
 use borrow.Fn.PlainCycle.{Measures, is, falls, and}
 use Rattle.set_ops_pass.proofs.flatten_set_op_cached.Reads as flatten-set-op-cached
@@ -52,80 +55,80 @@ use Rattle.node_store.proofs.added.Interned.refusal.Reads as added-Interned-ref
 use Rattle.recursion.proofs.Run.refusal.Reads as Run-refusal-reads
 use Rattle.set_op_lists.proofs.Brought.refusal.Reads as Brought-refusal-reads
 
-abbrev μ-flatten-set-op-cached : Measures 3 flatten-set-op-cached-kinds.ps ℕ
+abbrev μ-flatten-set-op-cached : Measures 4 flatten-set-op-cached-kinds.ps ℕ
 μ-flatten-set-op-cached κs a = 3 * (a .1 .1 .1 .0)
 
-abbrev μ-normalize-each : Measures 4 normalize-each-kinds.ps ℕ
+abbrev μ-normalize-each : Measures 5 normalize-each-kinds.ps ℕ
 μ-normalize-each κs a = 3 * (a .1 .1 .1 .0)
 
-abbrev μ-normalize-set-ops-cached : Measures 3 normalize-set-ops-cached-kinds.ps ℕ
+abbrev μ-normalize-set-ops-cached : Measures 4 normalize-set-ops-cached-kinds.ps ℕ
 μ-normalize-set-ops-cached κs a = 3 * (a .1 .1 .1 .0) + 2
 
-abbrev μ-normalize-set-ops-uncached : Measures 3 normalize-set-ops-uncached-kinds.ps ℕ
+abbrev μ-normalize-set-ops-uncached : Measures 4 normalize-set-ops-uncached-kinds.ps ℕ
 μ-normalize-set-ops-uncached κs a = 3 * (a .1 .1 .1 .0) + 1
 
-abbrev flatten-set-op-cached-at : ℕ → In 3 flatten-set-op-cached-kinds.ps
+abbrev flatten-set-op-cached-at : ℕ → In 4 flatten-set-op-cached-kinds.ps
 flatten-set-op-cached-at t =
     and
-    3
+    4
     flatten-set-op-cached-kinds.ps
-    (is 3 flatten-set-op-cached-kinds.ps μ-flatten-set-op-cached t)
+    (is 4 flatten-set-op-cached-kinds.ps μ-flatten-set-op-cached t)
     flatten-set-op-cached.Pre
 
-abbrev flatten-set-op-cached-below : ℕ → In 3 flatten-set-op-cached-kinds.ps
+abbrev flatten-set-op-cached-below : ℕ → In 4 flatten-set-op-cached-kinds.ps
 flatten-set-op-cached-below t =
     and
-    3
+    4
     flatten-set-op-cached-kinds.ps
-    (falls 3 flatten-set-op-cached-kinds.ps _<_ μ-flatten-set-op-cached t)
+    (falls 4 flatten-set-op-cached-kinds.ps _<_ μ-flatten-set-op-cached t)
     flatten-set-op-cached.Pre
 
-abbrev normalize-each-at : ℕ → In 4 normalize-each-kinds.ps
+abbrev normalize-each-at : ℕ → In 5 normalize-each-kinds.ps
 normalize-each-at t =
     and
-    4
+    5
     normalize-each-kinds.ps
-    (is 4 normalize-each-kinds.ps μ-normalize-each t)
+    (is 5 normalize-each-kinds.ps μ-normalize-each t)
     normalize-each.Pre
 
-abbrev normalize-each-below : ℕ → In 4 normalize-each-kinds.ps
+abbrev normalize-each-below : ℕ → In 5 normalize-each-kinds.ps
 normalize-each-below t =
     and
-    4
+    5
     normalize-each-kinds.ps
-    (falls 4 normalize-each-kinds.ps _<_ μ-normalize-each t)
+    (falls 5 normalize-each-kinds.ps _<_ μ-normalize-each t)
     normalize-each.Pre
 
-abbrev normalize-set-ops-cached-at : ℕ → In 3 normalize-set-ops-cached-kinds.ps
+abbrev normalize-set-ops-cached-at : ℕ → In 4 normalize-set-ops-cached-kinds.ps
 normalize-set-ops-cached-at t =
     and
-    3
+    4
     normalize-set-ops-cached-kinds.ps
-    (is 3 normalize-set-ops-cached-kinds.ps μ-normalize-set-ops-cached t)
+    (is 4 normalize-set-ops-cached-kinds.ps μ-normalize-set-ops-cached t)
     normalize-set-ops-cached.Pre
 
-abbrev normalize-set-ops-cached-below : ℕ → In 3 normalize-set-ops-cached-kinds.ps
+abbrev normalize-set-ops-cached-below : ℕ → In 4 normalize-set-ops-cached-kinds.ps
 normalize-set-ops-cached-below t =
     and
-    3
+    4
     normalize-set-ops-cached-kinds.ps
-    (falls 3 normalize-set-ops-cached-kinds.ps _<_ μ-normalize-set-ops-cached t)
+    (falls 4 normalize-set-ops-cached-kinds.ps _<_ μ-normalize-set-ops-cached t)
     normalize-set-ops-cached.Pre
 
-abbrev normalize-set-ops-uncached-at : ℕ → In 3 normalize-set-ops-uncached-kinds.ps
+abbrev normalize-set-ops-uncached-at : ℕ → In 4 normalize-set-ops-uncached-kinds.ps
 normalize-set-ops-uncached-at t =
     and
-    3
+    4
     normalize-set-ops-uncached-kinds.ps
-    (is 3 normalize-set-ops-uncached-kinds.ps μ-normalize-set-ops-uncached t)
+    (is 4 normalize-set-ops-uncached-kinds.ps μ-normalize-set-ops-uncached t)
     normalize-set-ops-uncached.Pre
 
-abbrev normalize-set-ops-uncached-below : ℕ → In 3 normalize-set-ops-uncached-kinds.ps
+abbrev normalize-set-ops-uncached-below : ℕ → In 4 normalize-set-ops-uncached-kinds.ps
 normalize-set-ops-uncached-below t =
     and
-    3
+    4
     normalize-set-ops-uncached-kinds.ps
-    (falls 3 normalize-set-ops-uncached-kinds.ps _<_ μ-normalize-set-ops-uncached t)
+    (falls 4 normalize-set-ops-uncached-kinds.ps _<_ μ-normalize-set-ops-uncached t)
     normalize-set-ops-uncached.Pre
 
 abbrev flatten-set-op-cached-claims : ℕ → flatten-set-op-cached-lts.Claims
@@ -141,17 +144,18 @@ abbrev normalize-set-ops-uncached-claims : ℕ → normalize-set-ops-uncached-lt
 normalize-set-ops-uncached-claims t = (wide-reads.Asked, wide-reads.Learnt, kind-at-reads.Asked, kind-at-reads.Learnt, flatten-set-op-cached-below t, flatten-set-op-cached.Post, all-children-reads.Asked, all-children-reads.Learnt, normalize-each-below t, normalize-each.Post, Run-refusal-reads.Asked, Run-refusal-reads.Learnt, rebuild-reads.Asked, rebuild-reads.Learnt)
 
 abbrev flatten-set-op-cached-Inv-loop : flatten-set-op-cached-lts.InvT-loop
-flatten-set-op-cached-Inv-loop words₀ starts₀ n kind cache₀ total list₀ last₀ i₀ words starts cache list last i = FlatTurn words₀ starts₀ last₀ n kind cache₀ total words starts cache (list .items) (list .count) last i
+flatten-set-op-cached-Inv-loop words₀ starts₀ n kind cache₀ filter₀ total list₀ last₀ i₀ words starts cache filter list last i =
+    FlatTurn words₀ starts₀ last₀ n kind cache₀ total words starts cache (list .items) (list .count) last i × CoversLent words starts last filter
 
 abbrev flatten-set-op-cached-μ-loop : flatten-set-op-cached-lts.MeasureT-loop
-flatten-set-op-cached-μ-loop words₀ starts₀ n kind cache₀ total list₀ last₀ i₀ words starts cache list last i = total - i
+flatten-set-op-cached-μ-loop words₀ starts₀ n kind cache₀ filter₀ total list₀ last₀ i₀ words starts cache filter list last i = total - i
 
 flatten-set-op-cached-member-count-requires :
     (t : ℕ) → flatten-set-op-cached-lts.Need-member-count-requires (flatten-set-op-cached-claims t) (flatten-set-op-cached-at t) flatten-set-op-cached.Post flatten-set-op-cached-Inv-loop flatten-set-op-cached-μ-loop
 flatten-set-op-cached-member-count-requires t c κs = search list-range
 
 flatten-set-op-cached-loop-holds : (t : ℕ) → flatten-set-op-cached-lts.Need-loop-holds (flatten-set-op-cached-claims t) (flatten-set-op-cached-at t) flatten-set-op-cached.Post flatten-set-op-cached-Inv-loop flatten-set-op-cached-μ-loop
-flatten-set-op-cached-loop-holds t c = search flat-start
+flatten-set-op-cached-loop-holds t c = (search flat-start, search needs)
 
 flatten-set-op-cached-member-at-requires :
     (t : ℕ) → flatten-set-op-cached-lts.Need-member-at-requires (flatten-set-op-cached-claims t) (flatten-set-op-cached-at t) flatten-set-op-cached.Post flatten-set-op-cached-Inv-loop flatten-set-op-cached-μ-loop
@@ -159,10 +163,10 @@ flatten-set-op-cached-member-at-requires t c κs = search flat-member
 
 flatten-set-op-cached-normalize-set-ops-cached-requires :
     (t : ℕ) → flatten-set-op-cached-lts.Need-normalize-set-ops-cached-requires (flatten-set-op-cached-claims t) (flatten-set-op-cached-at t) flatten-set-op-cached.Post flatten-set-op-cached-Inv-loop flatten-set-op-cached-μ-loop
-flatten-set-op-cached-normalize-set-ops-cached-requires t c κs = (search flat-falls, search flat-ready)
+flatten-set-op-cached-normalize-set-ops-cached-requires t c κs = (search flat-falls, (search flat-ready, search needs))
 
 flatten-set-op-cached-bring-requires : (t : ℕ) → flatten-set-op-cached-lts.Need-bring-requires (flatten-set-op-cached-claims t) (flatten-set-op-cached-at t) flatten-set-op-cached.Post flatten-set-op-cached-Inv-loop flatten-set-op-cached-μ-loop
-flatten-set-op-cached-bring-requires t c κs = flat-brings (c .before .before .before .before .before .before .before .before .before .before .before .before .before .before .before .loop .inv) (c .before .before .before .before .before .before .before .before .before .before .before .before .before .before .loop-test .taken) (c .before .before .before .before .before .before .before .before .before .before .before .member-at .ensures) (c .before .before .before .before .before .before .before .normalize-set-ops-cached .ensures)
+flatten-set-op-cached-bring-requires t c κs = flat-brings (c .before .before .before .before .before .before .before .before .before .before .before .before .before .before .before .before .loop .inv .0) (c .before .before .before .before .before .before .before .before .before .before .before .before .before .before .before .loop-test .taken) (c .before .before .before .before .before .before .before .before .before .before .before .before .member-at .ensures) (c .before .before .before .before .before .before .before .normalize-set-ops-cached .ensures .0)
 
 flatten-set-op-cached-enum-known-b : (t : ℕ) → flatten-set-op-cached-lts.Need-enum-known-b (flatten-set-op-cached-claims t) (flatten-set-op-cached-at t) flatten-set-op-cached.Post flatten-set-op-cached-Inv-loop flatten-set-op-cached-μ-loop
 flatten-set-op-cached-enum-known-b t c = search needs
@@ -180,7 +184,7 @@ flatten-set-op-cached-same-length-2 : (t : ℕ) → flatten-set-op-cached-lts.Ne
 flatten-set-op-cached-same-length-2 t c = search needs
 
 flatten-set-op-cached-returns : (t : ℕ) → flatten-set-op-cached-lts.Need-returns (flatten-set-op-cached-claims t) (flatten-set-op-cached-at t) flatten-set-op-cached.Post flatten-set-op-cached-Inv-loop flatten-set-op-cached-μ-loop
-flatten-set-op-cached-returns t c = flat-refused (c .before .before .before .before .before .before .before .before .before .before .before .before .before .before .before .before .before .before .before .loop .inv) (c .before .before .before .before .before .before .before .before .before .before .before .before .before .before .before .before .before .before .loop-test .taken) (c .before .before .before .before .before .before .before .before .before .before .before .before .before .before .before .member-at .ensures) (c .before .before .before .before .before .before .before .before .before .before .before .normalize-set-ops-cached .ensures) (c .before .before .before .bring .ensures) (told-on brought.Refused (brought-out []) (λ e. refl) (c .before .enum-told .given .1) (c .refusal .ensures))
+flatten-set-op-cached-returns t c = (flat-refused (c .before .before .before .before .before .before .before .before .before .before .before .before .before .before .before .before .before .before .before .before .loop .inv .0) (c .before .before .before .before .before .before .before .before .before .before .before .before .before .before .before .before .before .before .before .loop-test .taken) (c .before .before .before .before .before .before .before .before .before .before .before .before .before .before .before .before .member-at .ensures) (c .before .before .before .before .before .before .before .before .before .before .before .normalize-set-ops-cached .ensures .0) (c .before .before .before .bring .ensures) (told-on brought.Refused (brought-out []) (λ e. refl) (c .before .enum-told .given .1) (c .refusal .ensures)), covers-refused)
 
 flatten-set-op-cached-add-i : (t : ℕ) → flatten-set-op-cached-lts.Need-add-i (flatten-set-op-cached-claims t) (flatten-set-op-cached-at t) flatten-set-op-cached.Post flatten-set-op-cached-Inv-loop flatten-set-op-cached-μ-loop
 flatten-set-op-cached-add-i t c = search needs
@@ -189,11 +193,11 @@ flatten-set-op-cached-loop-less : (t : ℕ) → flatten-set-op-cached-lts.Need-l
 flatten-set-op-cached-loop-less t c = search needs
 
 flatten-set-op-cached-loop-again : (t : ℕ) → flatten-set-op-cached-lts.Need-loop-again (flatten-set-op-cached-claims t) (flatten-set-op-cached-at t) flatten-set-op-cached.Post flatten-set-op-cached-Inv-loop flatten-set-op-cached-μ-loop
-flatten-set-op-cached-loop-again t c = flat-more (c .before .before .before .before .before .before .before .before .before .before .before .before .before .before .before .before .before .before .before .loop .inv) (c .before .before .before .before .before .before .before .before .before .before .before .before .before .before .before .before .before .before .loop-test .taken) (c .before .before .before .before .before .before .before .before .before .before .before .before .before .before .before .member-at .ensures) (c .before .before .before .before .before .before .before .before .before .before .before .normalize-set-ops-cached .ensures) (c .before .before .before .bring .ensures) (c .before .b .given .1) (search needs) (search needs)
+flatten-set-op-cached-loop-again t c = (flat-more (c .before .before .before .before .before .before .before .before .before .before .before .before .before .before .before .before .before .before .before .before .loop .inv .0) (c .before .before .before .before .before .before .before .before .before .before .before .before .before .before .before .before .before .before .before .loop-test .taken) (c .before .before .before .before .before .before .before .before .before .before .before .before .before .before .before .before .member-at .ensures) (c .before .before .before .before .before .before .before .before .before .before .before .normalize-set-ops-cached .ensures .0) (c .before .before .before .bring .ensures) (c .before .b .given .1) (search needs) (search needs), brought-covers (c .before .before .before .before .before .before .before .before .before .before .before .normalize-set-ops-cached .ensures .1) (c .before .before .before .bring .ensures) (c .before .b .given .1))
 
 flatten-set-op-cached-close-list-requires :
     (t : ℕ) → flatten-set-op-cached-lts.Need-close-list-requires (flatten-set-op-cached-claims t) (flatten-set-op-cached-at t) flatten-set-op-cached.Post flatten-set-op-cached-Inv-loop flatten-set-op-cached-μ-loop
-flatten-set-op-cached-close-list-requires t c κs = search flat-filled
+flatten-set-op-cached-close-list-requires t c κs = (search flat-filled, (search flat-near, search needs))
 
 flatten-set-op-cached-same-length-3 : (t : ℕ) → flatten-set-op-cached-lts.Need-same-length-3 (flatten-set-op-cached-claims t) (flatten-set-op-cached-at t) flatten-set-op-cached.Post flatten-set-op-cached-Inv-loop flatten-set-op-cached-μ-loop
 flatten-set-op-cached-same-length-3 t c = search needs
@@ -202,23 +206,24 @@ flatten-set-op-cached-same-length-4 : (t : ℕ) → flatten-set-op-cached-lts.Ne
 flatten-set-op-cached-same-length-4 t c = search needs
 
 flatten-set-op-cached-returns-2 : (t : ℕ) → flatten-set-op-cached-lts.Need-returns-2 (flatten-set-op-cached-claims t) (flatten-set-op-cached-at t) flatten-set-op-cached.Post flatten-set-op-cached-Inv-loop flatten-set-op-cached-μ-loop
-flatten-set-op-cached-returns-2 t c = search flat-done
+flatten-set-op-cached-returns-2 t c = (search flat-done, search needs)
 
 abbrev normalize-each-Inv-loop : normalize-each-lts.InvT-loop
-normalize-each-Inv-loop words₀ starts₀ n items₀ count cache₀ last₀ i₀ words starts items cache last i = Turn normalize Grown words₀ starts₀ last₀ n items₀ count cache₀ words starts items cache last i
+normalize-each-Inv-loop words₀ starts₀ n items₀ count cache₀ filter₀ last₀ i₀ words starts items cache filter last i =
+    Turn normalize Grown words₀ starts₀ last₀ n items₀ count cache₀ words starts items cache last i × CoversLent words starts last filter
 
 abbrev normalize-each-μ-loop : normalize-each-lts.MeasureT-loop
-normalize-each-μ-loop words₀ starts₀ n items₀ count cache₀ last₀ i₀ words starts items cache last i = count - i
+normalize-each-μ-loop words₀ starts₀ n items₀ count cache₀ filter₀ last₀ i₀ words starts items cache filter last i = count - i
 
 normalize-each-loop-holds : (t : ℕ) → normalize-each-lts.Need-loop-holds (normalize-each-claims t) (normalize-each-at t) normalize-each.Post normalize-each-Inv-loop normalize-each-μ-loop
-normalize-each-loop-holds t c = search turn-start
+normalize-each-loop-holds t c = (search turn-start, search needs)
 
 normalize-each-item-at-requires : (t : ℕ) → normalize-each-lts.Need-item-at-requires (normalize-each-claims t) (normalize-each-at t) normalize-each.Post normalize-each-Inv-loop normalize-each-μ-loop
 normalize-each-item-at-requires t c κs = search turn-item
 
 normalize-each-normalize-set-ops-cached-requires :
     (t : ℕ) → normalize-each-lts.Need-normalize-set-ops-cached-requires (normalize-each-claims t) (normalize-each-at t) normalize-each.Post normalize-each-Inv-loop normalize-each-μ-loop
-normalize-each-normalize-set-ops-cached-requires t c κs = (search turn-falls, search (turn-ready, lawful))
+normalize-each-normalize-set-ops-cached-requires t c κs = (search turn-falls, (search (turn-ready, lawful), search needs))
 
 normalize-each-enum-known-r : (t : ℕ) → normalize-each-lts.Need-enum-known-r (normalize-each-claims t) (normalize-each-at t) normalize-each.Post normalize-each-Inv-loop normalize-each-μ-loop
 normalize-each-enum-known-r t c = search needs
@@ -236,7 +241,7 @@ normalize-each-same-length-2 : (t : ℕ) → normalize-each-lts.Need-same-length
 normalize-each-same-length-2 t c = search needs
 
 normalize-each-returns : (t : ℕ) → normalize-each-lts.Need-returns (normalize-each-claims t) (normalize-each-at t) normalize-each.Post normalize-each-Inv-loop normalize-each-μ-loop
-normalize-each-returns t c = turn-refused (c .before .before .before .before .before .before .before .before .before .before .before .before .before .before .loop .inv) (c .before .before .before .before .before .before .before .before .before .before .before .before .before .loop-test .taken) (c .before .before .before .before .before .before .before .before .before .before .before .item-at .ensures) lawful (c .before .before .before .before .before .before .before .normalize-set-ops-cached .ensures) (told-on interned.Refused interned-out (λ e. refl) (c .before .enum-told .given .1) (c .refusal .ensures))
+normalize-each-returns t c = (turn-refused (c .before .before .before .before .before .before .before .before .before .before .before .before .before .before .before .loop .inv .0) (c .before .before .before .before .before .before .before .before .before .before .before .before .before .before .loop-test .taken) (c .before .before .before .before .before .before .before .before .before .before .before .before .item-at .ensures) lawful (c .before .before .before .before .before .before .before .normalize-set-ops-cached .ensures .0) (told-on interned.Refused interned-out (λ e. refl) (c .before .enum-told .given .1) (c .refusal .ensures)), covers-stopped)
 
 normalize-each-mul-items : (t : ℕ) → normalize-each-lts.Need-mul-items (normalize-each-claims t) (normalize-each-at t) normalize-each.Post normalize-each-Inv-loop normalize-each-μ-loop
 normalize-each-mul-items t c = search needs
@@ -251,7 +256,7 @@ normalize-each-loop-less : (t : ℕ) → normalize-each-lts.Need-loop-less (norm
 normalize-each-loop-less t c = search needs
 
 normalize-each-loop-again : (t : ℕ) → normalize-each-lts.Need-loop-again (normalize-each-claims t) (normalize-each-at t) normalize-each.Post normalize-each-Inv-loop normalize-each-μ-loop
-normalize-each-loop-again t c = turn-more (c .before .before .before .before .before .before .before .before .before .before .before .before .before .before .loop .inv) (c .before .before .before .before .before .before .before .before .before .before .before .before .before .loop-test .taken) (c .before .before .before .before .before .before .before .before .before .before .before .item-at .ensures) lawful (c .before .before .before .before .before .before .before .normalize-set-ops-cached .ensures) (c .before .r .given .1) (search needs) (search needs)
+normalize-each-loop-again t c = (turn-more (c .before .before .before .before .before .before .before .before .before .before .before .before .before .before .before .loop .inv .0) (c .before .before .before .before .before .before .before .before .before .before .before .before .before .before .loop-test .taken) (c .before .before .before .before .before .before .before .before .before .before .before .before .item-at .ensures) lawful (c .before .before .before .before .before .before .before .normalize-set-ops-cached .ensures .0) (c .before .r .given .1) (search needs) (search needs), c .before .before .before .before .before .before .before .normalize-set-ops-cached .ensures .1 .is _ _ (c .before .r .given .1))
 
 normalize-each-same-length-3 : (t : ℕ) → normalize-each-lts.Need-same-length-3 (normalize-each-claims t) (normalize-each-at t) normalize-each.Post normalize-each-Inv-loop normalize-each-μ-loop
 normalize-each-same-length-3 t c = search needs
@@ -260,17 +265,17 @@ normalize-each-same-length-4 : (t : ℕ) → normalize-each-lts.Need-same-length
 normalize-each-same-length-4 t c = search needs
 
 normalize-each-returns-2 : (t : ℕ) → normalize-each-lts.Need-returns-2 (normalize-each-claims t) (normalize-each-at t) normalize-each.Post normalize-each-Inv-loop normalize-each-μ-loop
-normalize-each-returns-2 t c = search turn-done
+normalize-each-returns-2 t c = (search turn-done, search covers-went)
 
 normalize-set-ops-cached-cached-requires :
     (t : ℕ) → normalize-set-ops-cached-lts.Need-cached-requires (normalize-set-ops-cached-claims t) (normalize-set-ops-cached-at t) normalize-set-ops-cached.Post
 normalize-set-ops-cached-cached-requires t c κs = search (ready-small, lawful)
 
-normalize-set-ops-cached-sub-t12 : (t : ℕ) → normalize-set-ops-cached-lts.Need-sub-t12 (normalize-set-ops-cached-claims t) (normalize-set-ops-cached-at t) normalize-set-ops-cached.Post
-normalize-set-ops-cached-sub-t12 t c = search needs
+normalize-set-ops-cached-sub-t13 : (t : ℕ) → normalize-set-ops-cached-lts.Need-sub-t13 (normalize-set-ops-cached-claims t) (normalize-set-ops-cached-at t) normalize-set-ops-cached.Post
+normalize-set-ops-cached-sub-t13 t c = search needs
 
 normalize-set-ops-cached-returns : (t : ℕ) → normalize-set-ops-cached-lts.Need-returns (normalize-set-ops-cached-claims t) (normalize-set-ops-cached-at t) normalize-set-ops-cached.Post
-normalize-set-ops-cached-returns t c = search (cached-done, lawful)
+normalize-set-ops-cached-returns t c = (search (cached-done, lawful), search covers-kept)
 
 normalize-set-ops-cached-normalize-set-ops-uncached-requires :
     (t : ℕ) → normalize-set-ops-cached-lts.Need-normalize-set-ops-uncached-requires (normalize-set-ops-cached-claims t) (normalize-set-ops-cached-at t) normalize-set-ops-cached.Post
@@ -293,7 +298,7 @@ normalize-set-ops-cached-returns-2 t c = search needs
 
 normalize-set-ops-cached-remember-requires :
     (t : ℕ) → normalize-set-ops-cached-lts.Need-remember-requires (normalize-set-ops-cached-claims t) (normalize-set-ops-cached-at t) normalize-set-ops-cached.Post
-normalize-set-ops-cached-remember-requires t c κs = search (remember-room lawful (c .before .before .before .before .before .before .before .before .before .before .before .before .before .before .before .before .before .pre .1) (c .before .before .before .before .before .before .before .before .normalize-set-ops-uncached .ensures))
+normalize-set-ops-cached-remember-requires t c κs = search (remember-room lawful (c .before .before .before .before .before .before .before .before .before .before .before .before .before .before .before .before .before .before .pre .1 .0) (c .before .before .before .before .before .before .before .before .normalize-set-ops-uncached .ensures .0))
 
 normalize-set-ops-cached-same-length-3 : (t : ℕ) → normalize-set-ops-cached-lts.Need-same-length-3 (normalize-set-ops-cached-claims t) (normalize-set-ops-cached-at t) normalize-set-ops-cached.Post
 normalize-set-ops-cached-same-length-3 t c = search needs
@@ -302,7 +307,7 @@ normalize-set-ops-cached-same-length-4 : (t : ℕ) → normalize-set-ops-cached-
 normalize-set-ops-cached-same-length-4 t c = search needs
 
 normalize-set-ops-cached-returns-3 : (t : ℕ) → normalize-set-ops-cached-lts.Need-returns-3 (normalize-set-ops-cached-claims t) (normalize-set-ops-cached-at t) normalize-set-ops-cached.Post
-normalize-set-ops-cached-returns-3 t c = search (remembered, lawful)
+normalize-set-ops-cached-returns-3 t c = (search (remembered, lawful), search covers-told)
 
 normalize-set-ops-uncached-wide-requires :
     (t : ℕ) → normalize-set-ops-uncached-lts.Need-wide-requires (normalize-set-ops-uncached-claims t) (normalize-set-ops-uncached-at t) normalize-set-ops-uncached.Post
@@ -314,7 +319,7 @@ normalize-set-ops-uncached-kind-at-requires t c κs = search ready-wide
 
 normalize-set-ops-uncached-flatten-set-op-cached-requires :
     (t : ℕ) → normalize-set-ops-uncached-lts.Need-flatten-set-op-cached-requires (normalize-set-ops-uncached-claims t) (normalize-set-ops-uncached-at t) normalize-set-ops-uncached.Post
-normalize-set-ops-uncached-flatten-set-op-cached-requires t c κs = (search each-falls, search list-ready)
+normalize-set-ops-uncached-flatten-set-op-cached-requires t c κs = (search each-falls, (search list-ready, search needs))
 
 normalize-set-ops-uncached-same-length : (t : ℕ) → normalize-set-ops-uncached-lts.Need-same-length (normalize-set-ops-uncached-claims t) (normalize-set-ops-uncached-at t) normalize-set-ops-uncached.Post
 normalize-set-ops-uncached-same-length t c = search needs
@@ -332,7 +337,7 @@ normalize-set-ops-uncached-all-children-requires t c κs = search ready-range
 
 normalize-set-ops-uncached-normalize-each-requires :
     (t : ℕ) → normalize-set-ops-uncached-lts.Need-normalize-each-requires (normalize-set-ops-uncached-claims t) (normalize-set-ops-uncached-at t) normalize-set-ops-uncached.Post
-normalize-set-ops-uncached-normalize-each-requires t c κs = (search each-falls, search children-ready)
+normalize-set-ops-uncached-normalize-each-requires t c κs = (search each-falls, (search children-ready, search needs))
 
 normalize-set-ops-uncached-enum-known-r :
     (t : ℕ) → normalize-set-ops-uncached-lts.Need-enum-known-r (normalize-set-ops-uncached-claims t) (normalize-set-ops-uncached-at t) normalize-set-ops-uncached.Post
@@ -354,11 +359,11 @@ normalize-set-ops-uncached-same-length-4 :
 normalize-set-ops-uncached-same-length-4 t c = search needs
 
 normalize-set-ops-uncached-returns-2 : (t : ℕ) → normalize-set-ops-uncached-lts.Need-returns-2 (normalize-set-ops-uncached-claims t) (normalize-set-ops-uncached-at t) normalize-set-ops-uncached.Post
-normalize-set-ops-uncached-returns-2 t c = other-refused (c .before .before .before .before .before .before .before .before .before .before .before .before .before .before .before .before .before .before .before .before .before .before .pre .1) (c .before .before .before .before .before .before .before .before .before .before .before .before .before .before .before .before .before .wide .ensures) (c .before .before .before .before .before .before .before .before .before .before .before .before .before .before .before .before .kind-at .ensures) (c .before .before .before .before .before .before .before .before .before .before .before .before .all-children .ensures) (c .before .before .before .before .before .before .before .normalize-each .ensures) (told-on run.Refused run-out (λ e. refl) (c .before .enum-told .given .1) (c .refusal .ensures)) (search needs)
+normalize-set-ops-uncached-returns-2 t c = (other-refused (c .before .before .before .before .before .before .before .before .before .before .before .before .before .before .before .before .before .before .before .before .before .before .before .pre .1 .0) (c .before .before .before .before .before .before .before .before .before .before .before .before .before .before .before .before .before .before .wide .ensures) (c .before .before .before .before .before .before .before .before .before .before .before .before .before .before .before .before .before .kind-at .ensures) (c .before .before .before .before .before .before .before .before .before .before .before .before .before .all-children .ensures) (c .before .before .before .before .before .before .before .normalize-each .ensures .0) (told-on run.Refused run-out (λ e. refl) (c .before .enum-told .given .1) (c .refusal .ensures)) (search needs), covers-refused)
 
 normalize-set-ops-uncached-rebuild-requires :
     (t : ℕ) → normalize-set-ops-uncached-lts.Need-rebuild-requires (normalize-set-ops-uncached-claims t) (normalize-set-ops-uncached-at t) normalize-set-ops-uncached.Post
-normalize-set-ops-uncached-rebuild-requires t c κs = rebuilding (c .before .before .before .before .before .before .before .before .before .before .before .before .before .before .before .before .before .before .before .before .before .before .before .before .before .before .pre .1) (c .before .before .before .before .before .before .before .before .before .before .before .before .before .before .before .before .all-children .ensures) (c .before .before .before .before .before .before .before .before .before .before .before .normalize-each .ensures) (c .before .before .before .before .before .r .given .1)
+normalize-set-ops-uncached-rebuild-requires t c κs = (rebuilding (c .before .before .before .before .before .before .before .before .before .before .before .before .before .before .before .before .before .before .before .before .before .before .before .before .before .before .before .before .pre .1 .0) (c .before .before .before .before .before .before .before .before .before .before .before .before .before .before .before .before .before .before .all-children .ensures) (c .before .before .before .before .before .before .before .before .before .before .before .before .normalize-each .ensures .0) (c .before .before .before .before .before .before .r .given .1), c .before .before .before .before .before .before .before .before .before .before .before .before .normalize-each .ensures .1 .is _ (c .before .before .before .before .before .before .r .given .1))
 
 normalize-set-ops-uncached-same-length-5 :
     (t : ℕ) → normalize-set-ops-uncached-lts.Need-same-length-5 (normalize-set-ops-uncached-claims t) (normalize-set-ops-uncached-at t) normalize-set-ops-uncached.Post
@@ -369,7 +374,7 @@ normalize-set-ops-uncached-same-length-6 :
 normalize-set-ops-uncached-same-length-6 t c = search needs
 
 normalize-set-ops-uncached-returns-3 : (t : ℕ) → normalize-set-ops-uncached-lts.Need-returns-3 (normalize-set-ops-uncached-claims t) (normalize-set-ops-uncached-at t) normalize-set-ops-uncached.Post
-normalize-set-ops-uncached-returns-3 t c = other-done (c .before .before .before .before .before .before .before .before .before .before .before .before .before .before .before .before .before .before .before .before .before .before .before .before .before .before .before .before .before .before .before .pre .1) (c .before .before .before .before .before .before .before .before .before .before .before .before .before .before .before .before .before .before .before .before .before .before .before .before .before .before .wide .ensures) (c .before .before .before .before .before .before .before .before .before .before .before .before .before .before .before .before .before .before .before .before .before .before .before .before .before .kind-at .ensures) (c .before .before .before .before .before .before .before .before .before .before .before .before .before .before .before .before .before .before .before .before .before .all-children .ensures) (c .before .before .before .before .before .before .before .before .before .before .before .before .before .before .before .before .normalize-each .ensures) (c .before .before .before .before .before .before .before .before .before .before .r .given .1) (c .before .before .before .before .rebuild .ensures) (search needs) (search needs) (search needs) (search needs) (search needs)
+normalize-set-ops-uncached-returns-3 t c = (other-done (c .before .before .before .before .before .before .before .before .before .before .before .before .before .before .before .before .before .before .before .before .before .before .before .before .before .before .before .before .before .before .before .before .before .pre .1 .0) (c .before .before .before .before .before .before .before .before .before .before .before .before .before .before .before .before .before .before .before .before .before .before .before .before .before .before .before .before .wide .ensures) (c .before .before .before .before .before .before .before .before .before .before .before .before .before .before .before .before .before .before .before .before .before .before .before .before .before .before .before .kind-at .ensures) (c .before .before .before .before .before .before .before .before .before .before .before .before .before .before .before .before .before .before .before .before .before .before .before .all-children .ensures) (c .before .before .before .before .before .before .before .before .before .before .before .before .before .before .before .before .before .normalize-each .ensures .0) (c .before .before .before .before .before .before .before .before .before .before .before .r .given .1) (c .before .before .before .before .rebuild .ensures .0) (c .before .before .before .before .before .before .before .before .before .before .before .before .before .before .before .before .before .before .before .before .before .before .before .before .before .before .if1 .left) (search needs) (search needs) (search needs) (search needs), search needs)
 
 pub +flatten-set-op-cached+normalize-each+normalize-set-ops-cached+normalize-set-ops-uncached-spec :
     {M : Type 1} → statement M
@@ -428,7 +433,7 @@ pub +flatten-set-op-cached+normalize-each+normalize-set-ops-cached+normalize-set
     (normalize-set-ops-cached-at t)
     normalize-set-ops-cached.Post
     (normalize-set-ops-cached-cached-requires t)
-    (normalize-set-ops-cached-sub-t12 t)
+    (normalize-set-ops-cached-sub-t13 t)
     (normalize-set-ops-cached-returns t)
     (normalize-set-ops-cached-normalize-set-ops-uncached-requires t)
     (normalize-set-ops-cached-enum-known-r t)

@@ -9,6 +9,7 @@ use Rattle.types.specs.Memory.{Holds}
 use Rattle.types.specs.declared.Counters.{Counters}
 use Rattle.node_store.specs.declared.added.Interned.{Interned}
 use Rattle.node_store.specs.declared.added.Interned.the-variants as interned
+use Rattle.node_filter.specs.Inner.Filter.{CoversLent}
 use Rattle.sheet_reading.specs.declared.bytes.Place.{Place}
 use Rattle.sheet_reading.specs.declared.bytes.Place.the-variants as place
 use Rattle.sheet_reading.specs.declared.nodes.Nodes.{Nodes}
@@ -93,6 +94,10 @@ pub record Ready (bytes : List ℕ) (at table : ℕ) (w s : List ℕ) (c : Count
 
 pub record StoresNode (bytes : List ℕ) (at table : ℕ) (w s : List ℕ) (c : Counters) (w′ s′ : List ℕ) (r : Nodes) : Type 0 where
   pub is : (a : Arena) → Holds table w s c a → Stores bytes table w′ s′ r (node (length w) (length s) table a (drop at bytes))
+
+-- the nodes that memory then holds are in the filter, unless that is a refusal
+pub record CoversNodes (w s : List ℕ) (r : Nodes) (filter : List ℕ) : Type 0 where
+  pub is : (e : ℕ) (d : Counters) → r ≡ stored.To e d → CoversLent w s d filter
 
 -- the same with memory that holds the arena without a node
 pub record ReadyEmpty (bytes : List ℕ) (at table : ℕ) (w s : List ℕ) : Type 0 where

@@ -1,11 +1,11 @@
 -- What a node must keep is tested in turn: it ends within the words in use, has no fault, and is no node read before.
-use Rattle.soundness.proofs.Checks.{count-fits, next-end, next-long, next-fault, next-filtered, next-twice, next-good, passed-words, passed-starts}
+use Rattle.soundness.proofs.Checks.{count-fits, next-end, next-long, next-fault, next-searched, next-covered, next-twice, next-good, passed-words, passed-starts, none-set, node-set}
 use borrow.Author.Needs.{needs}
 use Rattle.soundness.proofs.next_node.Statement.{statement}
 use Rattle.soundness.proofs.next_node.Tie as tie
 
 returns : tie.Need-returns
-returns c = search next-end
+returns c = (search next-end, search none-set)
 
 mul-if3 : tie.Need-mul-if3
 mul-if3 c = search needs
@@ -23,7 +23,7 @@ sub-if2 : tie.Need-sub-if2
 sub-if2 c = search needs
 
 returns-2 : tie.Need-returns-2
-returns-2 c = search next-long
+returns-2 c = (search next-long, search none-set)
 
 add-end : tie.Need-add-end
 add-end c = search needs
@@ -44,28 +44,34 @@ fault-requires : tie.Need-fault-requires
 fault-requires c κs = search needs
 
 returns-3 : tie.Need-returns-3
-returns-3 c = search next-fault
+returns-3 c = (search next-fault, search none-set)
 
-slice-aggregate-find-seen : tie.Need-slice-aggregate-find-seen
-slice-aggregate-find-seen c = search passed-words
+hash-requires : tie.Need-hash-requires
+hash-requires c κs = search needs
 
-slice-aggregate-find-seen-2 : tie.Need-slice-aggregate-find-seen-2
-slice-aggregate-find-seen-2 c = search passed-starts
+slice-aggregate-find-filtered : tie.Need-slice-aggregate-find-filtered
+slice-aggregate-find-filtered c = search passed-words
 
-find-seen-requires : tie.Need-find-seen-requires
-find-seen-requires c κs = next-filtered _ (c .before .before .before .before .before .before .before .before .before .before .before .before .pre) (c .before .before .before .fault .ensures) (c .before .before .if3 .left)
+slice-aggregate-find-filtered-2 : tie.Need-slice-aggregate-find-filtered-2
+slice-aggregate-find-filtered-2 c = search passed-starts
 
-enum-known-found : tie.Need-enum-known-found
-enum-known-found c = search needs
-
-returns-4 : tie.Need-returns-4
-returns-4 c = search next-twice
+find-filtered-requires : tie.Need-find-filtered-requires
+find-filtered-requires c κs = (next-searched _ (c .before .before .before .before .before .before .before .before .before .before .before .before .before .pre .passed) (c .before .before .before .before .before .fault .ensures) (c .before .before .before .before .if3 .left), (next-covered (c .before .before .before .before .before .before .before .before .before .before .before .before .before .pre), search needs))
 
 enum-told : tie.Need-enum-told
 enum-told c = search needs
 
+returns-4 : tie.Need-returns-4
+returns-4 c = (search next-twice, search none-set)
+
+enum-told-2 : tie.Need-enum-told-2
+enum-told-2 c = search needs
+
+set-bits-requires : tie.Need-set-bits-requires
+set-bits-requires c κs = search needs
+
 returns-5 : tie.Need-returns-5
-returns-5 c = search next-good
+returns-5 c = (search next-good, search node-set)
 
 pub next-node-spec : {M : Type 1} → statement M
 next-node-spec =
@@ -85,10 +91,12 @@ next-node-spec =
     part-node-end
     fault-requires
     returns-3
-    slice-aggregate-find-seen
-    slice-aggregate-find-seen-2
-    find-seen-requires
-    enum-known-found
-    returns-4
+    hash-requires
+    slice-aggregate-find-filtered
+    slice-aggregate-find-filtered-2
+    find-filtered-requires
     enum-told
+    returns-4
+    enum-told-2
+    set-bits-requires
     returns-5)

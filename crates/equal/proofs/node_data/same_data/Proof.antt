@@ -16,8 +16,8 @@ shared-slice-read-if2-2 c = search needs
 returns-2 : tie.Need-returns-2
 returns-2 c = search heads-differ
 
-shared-slice-read-t11 : tie.Need-shared-slice-read-t11
-shared-slice-read-t11 c = search needs
+shared-slice-read-t10 : tie.Need-shared-slice-read-t10
+shared-slice-read-t10 c = search needs
 
 kind-requires : tie.Need-kind-requires
 kind-requires c κs = search needs
@@ -72,7 +72,7 @@ same-data-spec =
     shared-slice-read-if2
     shared-slice-read-if2-2
     returns-2
-    shared-slice-read-t11
+    shared-slice-read-t10
     kind-requires
     own-word-requires
     own-word-requires-2

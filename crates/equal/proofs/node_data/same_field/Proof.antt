@@ -1,5 +1,5 @@
--- The marks, then the order of the texts.
-use Rattle.equal.proofs.Fields.{marks-differ, names-same, names-less, names-greater}
+-- The marks, then what the map says of the names.
+use Rattle.equal.proofs.Fields.{marks-differ, names-told, name-small, name-place, name-next}
 use borrow.Author.Needs.{needs}
 use Rattle.equal.proofs.node_data.same_field.Statement.{statement}
 use Rattle.equal.proofs.node_data.same_field.Tie as tie
@@ -16,35 +16,23 @@ returns c = search marks-differ
 field-name-requires : tie.Need-field-name-requires
 field-name-requires c κs = search needs
 
-name-at-requires : tie.Need-name-at-requires
-name-at-requires c κs = search needs
+mul-wide : tie.Need-mul-wide
+mul-wide c = search name-place
+
+element-copy-out-wide : tie.Need-element-copy-out-wide
+element-copy-out-wide c = search name-small
+
+wide-requires : tie.Need-wide-requires
+wide-requires c κs = search needs
 
 field-name-requires-2 : tie.Need-field-name-requires-2
 field-name-requires-2 c κs = search needs
 
-name-at-requires-2 : tie.Need-name-at-requires-2
-name-at-requires-2 c κs = search needs
-
-compare-requires : tie.Need-compare-requires
-compare-requires c κs = search needs
-
-enum-told : tie.Need-enum-told
-enum-told c = search needs
-
-enum-told-2 : tie.Need-enum-told-2
-enum-told-2 c = search needs
-
-enum-told-3 : tie.Need-enum-told-3
-enum-told-3 c = search needs
+add-result : tie.Need-add-result
+add-result c = search name-next
 
 returns-2 : tie.Need-returns-2
-returns-2 c = names-less _ _ _ _ (c .before .before .before .before .before .before .before .before .before .field-optional .ensures) (c .before .before .before .before .before .before .before .before .field-optional2 .ensures) (search needs) (c .before .before .before .before .before .before .field-name .ensures) (c .before .before .before .before .field-name2 .ensures) (c .before .before .before .before .before .name-at .ensures) (c .before .before .before .name-at2 .ensures) (c .before .before .compare .ensures) (search needs)
-
-returns-3 : tie.Need-returns-3
-returns-3 c = names-same _ _ _ _ (c .before .before .before .before .before .before .before .before .before .field-optional .ensures) (c .before .before .before .before .before .before .before .before .field-optional2 .ensures) (search needs) (c .before .before .before .before .before .before .field-name .ensures) (c .before .before .before .before .field-name2 .ensures) (c .before .before .before .before .before .name-at .ensures) (c .before .before .before .name-at2 .ensures) (c .before .before .compare .ensures) (search needs)
-
-returns-4 : tie.Need-returns-4
-returns-4 c = names-greater _ _ _ _ (c .before .before .before .before .before .before .before .before .before .field-optional .ensures) (c .before .before .before .before .before .before .before .before .field-optional2 .ensures) (search needs) (c .before .before .before .before .before .before .field-name .ensures) (c .before .before .before .before .field-name2 .ensures) (c .before .before .before .before .before .name-at .ensures) (c .before .before .before .name-at2 .ensures) (c .before .before .compare .ensures) (search needs)
+returns-2 c = search names-told
 
 pub same-field-spec : {M : Type 1} → statement M
 same-field-spec =
@@ -54,13 +42,9 @@ same-field-spec =
     field-optional-requires-2
     returns
     field-name-requires
-    name-at-requires
+    mul-wide
+    element-copy-out-wide
+    wide-requires
     field-name-requires-2
-    name-at-requires-2
-    compare-requires
-    enum-told
-    enum-told-2
-    enum-told-3
-    returns-2
-    returns-3
-    returns-4)
+    add-result
+    returns-2)

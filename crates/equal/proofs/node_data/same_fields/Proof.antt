@@ -1,19 +1,19 @@
--- The invariant: the field words passed spell the same.
+-- The invariant: the field words passed are the same.
 use Prim.Native.Nat.{_-_}
 use lib.ListN.{length}
-use Rattle.equal.proofs.Fields.{Spelling-so-far, spelling-start, spelling-other, spelling-more, spelling-done}
+use Rattle.equal.proofs.Fields.{Same-so-far, fields-start, fields-other, fields-more, fields-done}
 use borrow.Author.Needs.{needs}
 use Rattle.equal.proofs.node_data.same_fields.Statement.{statement}
 use Rattle.equal.proofs.node_data.same_fields.Tie as tie
 
 abbrev Inv-loop : tie.InvT-loop
-Inv-loop left-table e right-table f i₀ i = Spelling-so-far left-table e right-table f i
+Inv-loop names e f i₀ i = Same-so-far names e f i
 
 abbrev μ-loop : tie.MeasureT-loop
-μ-loop left-table e right-table f i₀ i = length e - i
+μ-loop names e f i₀ i = length e - i
 
 loop-holds : tie.Need-loop-holds Inv-loop μ-loop
-loop-holds c = search spelling-start
+loop-holds c = search fields-start
 
 mul-same-field : tie.Need-mul-same-field Inv-loop μ-loop
 mul-same-field c = search needs
@@ -31,7 +31,7 @@ same-field-requires : tie.Need-same-field-requires Inv-loop μ-loop
 same-field-requires c κs = search needs
 
 returns : tie.Need-returns Inv-loop μ-loop
-returns c = search spelling-other
+returns c = search fields-other
 
 add-i : tie.Need-add-i Inv-loop μ-loop
 add-i c = search needs
@@ -40,10 +40,10 @@ loop-less : tie.Need-loop-less Inv-loop μ-loop
 loop-less c = search needs
 
 loop-again : tie.Need-loop-again Inv-loop μ-loop
-loop-again c = search spelling-more
+loop-again c = search fields-more
 
 returns-2 : tie.Need-returns-2 Inv-loop μ-loop
-returns-2 c = search spelling-done
+returns-2 c = search fields-done
 
 pub same-fields-spec : {M : Type 1} → statement M
 same-fields-spec =

@@ -7,14 +7,23 @@ use Rattle.equal.proofs.pairs.pair.Tie as tie
 wide-requires : tie.Need-wide-requires
 wide-requires c κs = search needs
 
-mul-there : tie.Need-mul-there
-mul-there c = search needs
+mul-entry : tie.Need-mul-entry
+mul-entry c = search needs
 
-element-copy-out-there : tie.Need-element-copy-out-there
-element-copy-out-there c = search needs
+element-copy-out-entry : tie.Need-element-copy-out-entry
+element-copy-out-entry c = search needs
 
-add-partners : tie.Need-add-partners
-add-partners c = search needs
+entry-requires : tie.Need-entry-requires
+entry-requires c κs = search needs
+
+wide-requires-2 : tie.Need-wide-requires-2
+wide-requires-2 c κs = search needs
+
+add-next : tie.Need-add-next
+add-next c = search needs
+
+cast-partners : tie.Need-cast-partners
+cast-partners c = search needs
 
 mul-partners : tie.Need-mul-partners
 mul-partners c = search needs
@@ -25,9 +34,6 @@ element-write-partners c = search needs
 returns : tie.Need-returns
 returns c = search pair-new
 
-add-result : tie.Need-add-result
-add-result c = search needs
-
 returns-2 : tie.Need-returns-2
 returns-2 c = search pair-told
 
@@ -36,11 +42,13 @@ pair-spec =
     tie.close
     (tie.spec
     wide-requires
-    mul-there
-    element-copy-out-there
-    add-partners
+    mul-entry
+    element-copy-out-entry
+    entry-requires
+    wide-requires-2
+    add-next
+    cast-partners
     mul-partners
     element-write-partners
     returns
-    add-result
     returns-2)

@@ -1,20 +1,22 @@
 -- The invariant: equal roots make all partners equal, and from n on partners are matched.
-use Rattle.equal.proofs.Sweeps.{Sweep, root-cast, root-partner, root-next, root-place, root-small, sweep-start, sweep-visit, sweep-refuted, sweep-more, sweep-done}
+use Rattle.equal.proofs.Sweeps.{Sweep, root-after, root-partner, root-next, root-place, root-small, sweep-start, sweep-visit, sweep-refuted, sweep-more, sweep-done}
 use borrow.Author.Needs.{needs}
 use Rattle.equal.proofs.pairs.sweep.Statement.{statement}
 use Rattle.equal.proofs.pairs.sweep.Tie as tie
 
 abbrev Inv-loop : tie.InvT-loop
-Inv-loop left-table left-words left-starts left left-root right-table right-words right-starts right right-root partners₀ n₀ partners n = Sweep left-table left-words left-starts left left-root right-table right-words right-starts right right-root partners n
+Inv-loop names left-words left-starts left left-root right-words right-starts right right-root partners₀ next n₀ partners n =
+    Sweep names left-words left-starts left left-root right-words right-starts right right-root partners n
 
 abbrev μ-loop : tie.MeasureT-loop
-μ-loop left-table left-words left-starts left left-root right-table right-words right-starts right right-root partners₀ n₀ partners n = n
+μ-loop names left-words left-starts left left-root right-words right-starts right right-root partners₀ next n₀ partners n =
+    n
+
+add-next : tie.Need-add-next Inv-loop μ-loop
+add-next c = search root-after
 
 cast-partners : tie.Need-cast-partners Inv-loop μ-loop
-cast-partners c = search root-cast
-
-add-partners : tie.Need-add-partners Inv-loop μ-loop
-add-partners c = search root-partner
+cast-partners c = search root-partner
 
 mul-partners : tie.Need-mul-partners Inv-loop μ-loop
 mul-partners c = search root-place
@@ -52,8 +54,8 @@ sweep-spec =
     (tie.spec
     Inv-loop
     μ-loop
+    add-next
     cast-partners
-    add-partners
     mul-partners
     element-write-partners
     add-n

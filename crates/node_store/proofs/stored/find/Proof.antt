@@ -5,10 +5,13 @@ use Rattle.node_store.proofs.stored.find.Statement.{statement}
 use Rattle.node_store.proofs.stored.find.Tie as tie
 
 abbrev Inv-loop : tie.InvT-loop
-Inv-loop words starts c node i₀ i = Seeks words starts c node i
+Inv-loop words starts c node low i₀ i = Seeks words starts c node i
 
 abbrev μ-loop : tie.MeasureT-loop
-μ-loop words starts c node i₀ i = i
+μ-loop words starts c node low i₀ i = i
+
+after-children-requires : tie.Need-after-children-requires Inv-loop μ-loop
+after-children-requires c κs = search needs
 
 loop-holds : tie.Need-loop-holds Inv-loop μ-loop
 loop-holds c = search seek-start
@@ -37,6 +40,7 @@ find-spec =
     (tie.spec
     Inv-loop
     μ-loop
+    after-children-requires
     loop-holds
     sub-i
     is-there-requires

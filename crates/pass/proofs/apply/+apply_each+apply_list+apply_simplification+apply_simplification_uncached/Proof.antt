@@ -10,7 +10,10 @@ use Rattle.recursion.specs.declared.Run.the-variants as run
 use Rattle.pass.proofs.Remembering.{ready-small, same-falls, cached-done, remember-room, remembered}
 use Rattle.pass.proofs.Turns.{Turn, turn-start, turn-item, turn-falls, turn-ready, turn-refused, turn-more, turn-done}
 use Rattle.pass.proofs.Others.{ready-range, ready-wide, list-ready, list-falls, each-falls, children-ready, other-refused, rebuilding, other-done}
-use Rattle.pass.proofs.Gathering.{list-at, list-here, members-fall, members-ready, list-refused, closing-ready, list-done, first-falls, first-ready, list-emptied}
+use Rattle.pass.proofs.Gathering.{list-at, list-here, members-fall, members-ready, list-refused, closing-ready, near-inside, list-done, first-falls, first-ready, list-emptied}
+use Rattle.node_filter.specs.Inner.Filter.{CoversLent}
+use Rattle.node_filter.proofs.Filters.{covers-kept, covers-refused, covers-told}
+use Rattle.recursion.proofs.Covering.{covers-stopped, covers-went}
 use borrow.Fn.Kinds.{In}
 use borrow.Fn.PlainCycle.{Measures, is, falls, and}
 use Rattle.pass.proofs.apply.apply_each.Reads as apply-each
@@ -44,64 +47,64 @@ use Rattle.pass.proofs.apply.+apply_each+apply_list+apply_simplificatio
 use Rattle.node_store.proofs.added.Interned.refusal.Reads as added-Interned-refusal-reads
 use Rattle.recursion.proofs.Run.refusal.Reads as Run-refusal-reads
 
-abbrev μ-apply-each : Measures 6 apply-each-kinds.ps ℕ
+abbrev μ-apply-each : Measures 7 apply-each-kinds.ps ℕ
 μ-apply-each κs a = 4 * (a .1 .1 .1 .0)
 
-abbrev μ-apply-list : Measures 5 apply-list-kinds.ps ℕ
+abbrev μ-apply-list : Measures 6 apply-list-kinds.ps ℕ
 μ-apply-list κs a = 4 * (a .1 .1 .1 .0) + 1
 
-abbrev μ-apply-simplification : Measures 5 apply-simplification-kinds.ps ℕ
+abbrev μ-apply-simplification : Measures 6 apply-simplification-kinds.ps ℕ
 μ-apply-simplification κs a = 4 * (a .1 .1 .1 .0) + 3
 
-abbrev μ-apply-simplification-uncached : Measures 5 apply-simplification-uncached-kinds.ps ℕ
+abbrev μ-apply-simplification-uncached : Measures 6 apply-simplification-uncached-kinds.ps ℕ
 μ-apply-simplification-uncached κs a = 4 * (a .1 .1 .1 .0) + 2
 
-abbrev apply-each-at : ℕ → In 6 apply-each-kinds.ps
+abbrev apply-each-at : ℕ → In 7 apply-each-kinds.ps
 apply-each-at t =
-    and 6 apply-each-kinds.ps (is 6 apply-each-kinds.ps μ-apply-each t) apply-each.Pre
+    and 7 apply-each-kinds.ps (is 7 apply-each-kinds.ps μ-apply-each t) apply-each.Pre
 
-abbrev apply-each-below : ℕ → In 6 apply-each-kinds.ps
+abbrev apply-each-below : ℕ → In 7 apply-each-kinds.ps
 apply-each-below t =
-    and 6 apply-each-kinds.ps (falls 6 apply-each-kinds.ps _<_ μ-apply-each t) apply-each.Pre
+    and 7 apply-each-kinds.ps (falls 7 apply-each-kinds.ps _<_ μ-apply-each t) apply-each.Pre
 
-abbrev apply-list-at : ℕ → In 5 apply-list-kinds.ps
+abbrev apply-list-at : ℕ → In 6 apply-list-kinds.ps
 apply-list-at t =
-    and 5 apply-list-kinds.ps (is 5 apply-list-kinds.ps μ-apply-list t) apply-list.Pre
+    and 6 apply-list-kinds.ps (is 6 apply-list-kinds.ps μ-apply-list t) apply-list.Pre
 
-abbrev apply-list-below : ℕ → In 5 apply-list-kinds.ps
+abbrev apply-list-below : ℕ → In 6 apply-list-kinds.ps
 apply-list-below t =
-    and 5 apply-list-kinds.ps (falls 5 apply-list-kinds.ps _<_ μ-apply-list t) apply-list.Pre
+    and 6 apply-list-kinds.ps (falls 6 apply-list-kinds.ps _<_ μ-apply-list t) apply-list.Pre
 
-abbrev apply-simplification-at : ℕ → In 5 apply-simplification-kinds.ps
+abbrev apply-simplification-at : ℕ → In 6 apply-simplification-kinds.ps
 apply-simplification-at t =
     and
-    5
+    6
     apply-simplification-kinds.ps
-    (is 5 apply-simplification-kinds.ps μ-apply-simplification t)
+    (is 6 apply-simplification-kinds.ps μ-apply-simplification t)
     apply-simplification.Pre
 
-abbrev apply-simplification-below : ℕ → In 5 apply-simplification-kinds.ps
+abbrev apply-simplification-below : ℕ → In 6 apply-simplification-kinds.ps
 apply-simplification-below t =
     and
-    5
+    6
     apply-simplification-kinds.ps
-    (falls 5 apply-simplification-kinds.ps _<_ μ-apply-simplification t)
+    (falls 6 apply-simplification-kinds.ps _<_ μ-apply-simplification t)
     apply-simplification.Pre
 
-abbrev apply-simplification-uncached-at : ℕ → In 5 apply-simplification-uncached-kinds.ps
+abbrev apply-simplification-uncached-at : ℕ → In 6 apply-simplification-uncached-kinds.ps
 apply-simplification-uncached-at t =
     and
-    5
+    6
     apply-simplification-uncached-kinds.ps
-    (is 5 apply-simplification-uncached-kinds.ps μ-apply-simplification-uncached t)
+    (is 6 apply-simplification-uncached-kinds.ps μ-apply-simplification-uncached t)
     apply-simplification-uncached.Pre
 
-abbrev apply-simplification-uncached-below : ℕ → In 5 apply-simplification-uncached-kinds.ps
+abbrev apply-simplification-uncached-below : ℕ → In 6 apply-simplification-uncached-kinds.ps
 apply-simplification-uncached-below t =
     and
-    5
+    6
     apply-simplification-uncached-kinds.ps
-    (falls 5 apply-simplification-uncached-kinds.ps _<_ μ-apply-simplification-uncached t)
+    (falls 6 apply-simplification-uncached-kinds.ps _<_ μ-apply-simplification-uncached t)
     apply-simplification-uncached.Pre
 
 abbrev apply-each-claims : ℕ → apply-each-lts.Claims
@@ -117,20 +120,20 @@ abbrev apply-simplification-uncached-claims : ℕ → apply-simplification-uncac
 apply-simplification-uncached-claims t = (wide-reads.Asked, wide-reads.Learnt, kind-at-reads.Asked, kind-at-reads.Learnt, apply-list-below t, apply-list.Post, all-children-reads.Asked, all-children-reads.Learnt, apply-each-below t, apply-each.Post, Run-refusal-reads.Asked, Run-refusal-reads.Learnt, rebuild-reads.Asked, rebuild-reads.Learnt)
 
 abbrev apply-each-Inv-loop : apply-each-lts.InvT-loop
-apply-each-Inv-loop words₀ starts₀ n items₀ count removable keep dropped₀ kept₀ last₀ i₀ words starts items dropped kept last i = Turn words₀ starts₀ last₀ n items₀ count removable keep dropped₀ kept₀ words starts items dropped kept last i
+apply-each-Inv-loop words₀ starts₀ n items₀ count removable keep dropped₀ kept₀ filter₀ last₀ i₀ words starts items dropped kept filter last i = Turn words₀ starts₀ last₀ n items₀ count removable keep dropped₀ kept₀ words starts items dropped kept last i × CoversLent words starts last filter
 
 abbrev apply-each-μ-loop : apply-each-lts.MeasureT-loop
-apply-each-μ-loop words₀ starts₀ n items₀ count removable keep dropped₀ kept₀ last₀ i₀ words starts items dropped kept last i = count - i
+apply-each-μ-loop words₀ starts₀ n items₀ count removable keep dropped₀ kept₀ filter₀ last₀ i₀ words starts items dropped kept filter last i = count - i
 
 apply-each-loop-holds : (t : ℕ) → apply-each-lts.Need-loop-holds (apply-each-claims t) (apply-each-at t) apply-each.Post apply-each-Inv-loop apply-each-μ-loop
-apply-each-loop-holds t c = search turn-start
+apply-each-loop-holds t c = (search turn-start, search needs)
 
 apply-each-item-at-requires : (t : ℕ) → apply-each-lts.Need-item-at-requires (apply-each-claims t) (apply-each-at t) apply-each.Post apply-each-Inv-loop apply-each-μ-loop
 apply-each-item-at-requires t c κs = search turn-item
 
 apply-each-apply-simplification-requires :
     (t : ℕ) → apply-each-lts.Need-apply-simplification-requires (apply-each-claims t) (apply-each-at t) apply-each.Post apply-each-Inv-loop apply-each-μ-loop
-apply-each-apply-simplification-requires t c κs = (search turn-falls, search turn-ready)
+apply-each-apply-simplification-requires t c κs = (search turn-falls, (search turn-ready, search needs))
 
 apply-each-enum-known-r : (t : ℕ) → apply-each-lts.Need-enum-known-r (apply-each-claims t) (apply-each-at t) apply-each.Post apply-each-Inv-loop apply-each-μ-loop
 apply-each-enum-known-r t c = search needs
@@ -148,7 +151,7 @@ apply-each-same-length-2 : (t : ℕ) → apply-each-lts.Need-same-length-2 (appl
 apply-each-same-length-2 t c = search needs
 
 apply-each-returns : (t : ℕ) → apply-each-lts.Need-returns (apply-each-claims t) (apply-each-at t) apply-each.Post apply-each-Inv-loop apply-each-μ-loop
-apply-each-returns t c = turn-refused (c .before .before .before .before .before .before .before .before .before .before .before .before .before .before .before .loop .inv) (c .before .before .before .before .before .before .before .before .before .before .before .before .before .before .loop-test .taken) (c .before .before .before .before .before .before .before .before .before .before .before .before .item-at .ensures) (c .before .before .before .before .before .before .before .apply-simplification .ensures) (told-on interned.Refused interned-out (λ e. refl) (c .before .enum-told .given .1) (c .refusal .ensures))
+apply-each-returns t c = (turn-refused (c .before .before .before .before .before .before .before .before .before .before .before .before .before .before .before .before .loop .inv .0) (c .before .before .before .before .before .before .before .before .before .before .before .before .before .before .before .loop-test .taken) (c .before .before .before .before .before .before .before .before .before .before .before .before .before .item-at .ensures) (c .before .before .before .before .before .before .before .apply-simplification .ensures .0) (told-on interned.Refused interned-out (λ e. refl) (c .before .enum-told .given .1) (c .refusal .ensures)), covers-stopped)
 
 apply-each-mul-items : (t : ℕ) → apply-each-lts.Need-mul-items (apply-each-claims t) (apply-each-at t) apply-each.Post apply-each-Inv-loop apply-each-μ-loop
 apply-each-mul-items t c = search needs
@@ -163,7 +166,7 @@ apply-each-loop-less : (t : ℕ) → apply-each-lts.Need-loop-less (apply-each-c
 apply-each-loop-less t c = search needs
 
 apply-each-loop-again : (t : ℕ) → apply-each-lts.Need-loop-again (apply-each-claims t) (apply-each-at t) apply-each.Post apply-each-Inv-loop apply-each-μ-loop
-apply-each-loop-again t c = turn-more (c .before .before .before .before .before .before .before .before .before .before .before .before .before .before .before .loop .inv) (c .before .before .before .before .before .before .before .before .before .before .before .before .before .before .loop-test .taken) (c .before .before .before .before .before .before .before .before .before .before .before .before .item-at .ensures) (c .before .before .before .before .before .before .before .apply-simplification .ensures) (c .before .r .given .1) (search needs) (search needs)
+apply-each-loop-again t c = (turn-more (c .before .before .before .before .before .before .before .before .before .before .before .before .before .before .before .before .loop .inv .0) (c .before .before .before .before .before .before .before .before .before .before .before .before .before .before .before .loop-test .taken) (c .before .before .before .before .before .before .before .before .before .before .before .before .before .item-at .ensures) (c .before .before .before .before .before .before .before .apply-simplification .ensures .0) (c .before .r .given .1) (search needs) (search needs), c .before .before .before .before .before .before .before .apply-simplification .ensures .1 .is _ _ (c .before .r .given .1))
 
 apply-each-same-length-3 : (t : ℕ) → apply-each-lts.Need-same-length-3 (apply-each-claims t) (apply-each-at t) apply-each.Post apply-each-Inv-loop apply-each-μ-loop
 apply-each-same-length-3 t c = search needs
@@ -172,7 +175,7 @@ apply-each-same-length-4 : (t : ℕ) → apply-each-lts.Need-same-length-4 (appl
 apply-each-same-length-4 t c = search needs
 
 apply-each-returns-2 : (t : ℕ) → apply-each-lts.Need-returns-2 (apply-each-claims t) (apply-each-at t) apply-each.Post apply-each-Inv-loop apply-each-μ-loop
-apply-each-returns-2 t c = search turn-done
+apply-each-returns-2 t c = (search turn-done, search covers-went)
 
 apply-list-first-member-requires : (t : ℕ) → apply-list-lts.Need-first-member-requires (apply-list-claims t) (apply-list-at t) apply-list.Post
 apply-list-first-member-requires t c κs = search list-at
@@ -181,7 +184,7 @@ apply-list-remaining-requires : (t : ℕ) → apply-list-lts.Need-remaining-requ
 apply-list-remaining-requires t c κs = search list-here
 
 apply-list-apply-each-requires : (t : ℕ) → apply-list-lts.Need-apply-each-requires (apply-list-claims t) (apply-list-at t) apply-list.Post
-apply-list-apply-each-requires t c κs = (search members-fall, search (members-ready (c .before .before .before .before .before .before .before .before .before .before .before .before .before .pre .1) (c .before .before .before .before .before .remaining .ensures)))
+apply-list-apply-each-requires t c κs = (search members-fall, (search (members-ready (c .before .before .before .before .before .before .before .before .before .before .before .before .before .before .pre .1 .0) (c .before .before .before .before .before .before .remaining .ensures)), search needs))
 
 apply-list-enum-known-r : (t : ℕ) → apply-list-lts.Need-enum-known-r (apply-list-claims t) (apply-list-at t) apply-list.Post
 apply-list-enum-known-r t c = search needs
@@ -199,10 +202,10 @@ apply-list-same-length-2 : (t : ℕ) → apply-list-lts.Need-same-length-2 (appl
 apply-list-same-length-2 t c = search needs
 
 apply-list-returns : (t : ℕ) → apply-list-lts.Need-returns (apply-list-claims t) (apply-list-at t) apply-list.Post
-apply-list-returns t c = list-refused (c .before .before .before .before .before .before .before .before .before .before .before .before .before .before .before .before .before .before .before .before .before .pre .1) (c .before .before .before .before .before .before .before .before .before .before .before .before .before .remaining .ensures) (c .before .before .before .before .before .before .before .apply-each .ensures) (told-on run.Refused run-out (λ e. refl) (c .before .enum-told .given .1) (c .refusal .ensures))
+apply-list-returns t c = (list-refused (c .before .before .before .before .before .before .before .before .before .before .before .before .before .before .before .before .before .before .before .before .before .before .pre .1 .0) (c .before .before .before .before .before .before .before .before .before .before .before .before .before .before .remaining .ensures) (c .before .before .before .before .before .before .before .apply-each .ensures .0) (told-on run.Refused run-out (λ e. refl) (c .before .enum-told .given .1) (c .refusal .ensures)), covers-refused)
 
 apply-list-close-list-requires : (t : ℕ) → apply-list-lts.Need-close-list-requires (apply-list-claims t) (apply-list-at t) apply-list.Post
-apply-list-close-list-requires t c κs = closing-ready (c .before .before .before .before .before .before .before .before .before .before .before .before .before .before .before .before .before .before .before .before .before .before .before .before .before .pre .1) (c .before .before .before .before .before .before .before .before .before .before .before .before .before .before .before .before .before .remaining .ensures) (c .before .before .before .before .before .before .before .before .before .before .before .apply-each .ensures) (c .before .before .before .before .before .r .given .1)
+apply-list-close-list-requires t c κs = (closing-ready (c .before .before .before .before .before .before .before .before .before .before .before .before .before .before .before .before .before .before .before .before .before .before .before .before .before .before .before .pre .1 .0) (c .before .before .before .before .before .before .before .before .before .before .before .before .before .before .before .before .before .before .before .remaining .ensures) (c .before .before .before .before .before .before .before .before .before .before .before .before .apply-each .ensures .0) (c .before .before .before .before .before .before .r .given .1), (near-inside (c .before .before .before .before .before .before .before .before .before .before .before .before .before .before .before .before .before .before .before .before .before .before .before .before .before .before .before .pre .1 .0) (c .before .before .before .before .before .before .before .before .before .before .before .before .before .before .before .before .before .before .before .remaining .ensures) (c .before .before .before .before .before .before .before .before .before .before .before .before .apply-each .ensures .0) (c .before .before .before .before .before .before .r .given .1), c .before .before .before .before .before .before .before .before .before .before .before .before .apply-each .ensures .1 .is _ (c .before .before .before .before .before .before .r .given .1)))
 
 apply-list-enum-known-closed : (t : ℕ) → apply-list-lts.Need-enum-known-closed (apply-list-claims t) (apply-list-at t) apply-list.Post
 apply-list-enum-known-closed t c = search needs
@@ -212,7 +215,7 @@ apply-list-enum-told-2 t c = search needs
 
 apply-list-apply-simplification-requires :
     (t : ℕ) → apply-list-lts.Need-apply-simplification-requires (apply-list-claims t) (apply-list-at t) apply-list.Post
-apply-list-apply-simplification-requires t c κs = (first-falls (c .before .before .before .before .before .before .before .before .before .before .before .before .before .before .before .before .before .before .before .before .before .before .before .before .before .before .before .before .before .before .before .before .before .before .before .before .pre .1) (c .before .before .before .before .before .before .before .before .before .before .before .before .before .before .before .before .before .before .before .before .before .before .before .before .before .before .before .before .remaining .ensures) (c .before .before .before .before .before .before .before .before .before .before .before .before .before .before .before .before .before .before .before .before .before .before .apply-each .ensures) (c .before .before .before .before .before .before .before .before .before .before .before .before .before .before .before .before .r .given .1) (c .before .before .before .before .before .before .before .before .before .before .close-list .ensures) (c .before .before .before .before .before .before .before .before .before .before .before .before .before .before .before .before .before .before .before .before .before .before .before .before .before .before .before .before .before .before .before .first-member .ensures) (c .before .before .before .before .enum-told2 .given .1) (c .before .before .before .before .before .before .before .before .before .before .before .before .before .before .before .before .before .before .before .before .before .before .before .before .before .before .before .before .before .before .before .before .before .before .before .before .pre .0), first-ready (c .before .before .before .before .before .before .before .before .before .before .before .before .before .before .before .before .before .before .before .before .before .before .before .before .before .before .before .before .before .before .before .before .before .before .before .before .pre .1) (c .before .before .before .before .before .before .before .before .before .before .before .before .before .before .before .before .before .before .before .before .before .before .before .before .before .before .before .before .remaining .ensures) (c .before .before .before .before .before .before .before .before .before .before .before .before .before .before .before .before .before .before .before .before .before .before .apply-each .ensures) (c .before .before .before .before .before .before .before .before .before .before .before .before .before .before .before .before .r .given .1) (c .before .before .before .before .before .before .before .before .before .before .close-list .ensures) (c .before .before .before .before .before .before .before .before .before .before .before .before .before .before .before .before .before .before .before .before .before .before .before .before .before .before .before .before .before .before .before .first-member .ensures) (c .before .before .before .before .enum-told2 .given .1))
+apply-list-apply-simplification-requires t c κs = (first-falls (c .before .before .before .before .before .before .before .before .before .before .before .before .before .before .before .before .before .before .before .before .before .before .before .before .before .before .before .before .before .before .before .before .before .before .before .before .before .before .before .pre .1 .0) (c .before .before .before .before .before .before .before .before .before .before .before .before .before .before .before .before .before .before .before .before .before .before .before .before .before .before .before .before .before .before .before .remaining .ensures) (c .before .before .before .before .before .before .before .before .before .before .before .before .before .before .before .before .before .before .before .before .before .before .before .before .apply-each .ensures .0) (c .before .before .before .before .before .before .before .before .before .before .before .before .before .before .before .before .before .before .r .given .1) (c .before .before .before .before .before .before .before .before .before .before .before .close-list .ensures .0) (c .before .before .before .before .before .before .before .before .before .before .before .before .before .before .before .before .before .before .before .before .before .before .before .before .before .before .before .before .before .before .before .before .before .before .first-member .ensures) (c .before .before .before .before .before .enum-told2 .given .1) (c .before .before .before .before .before .before .before .before .before .before .before .before .before .before .before .before .before .before .before .before .before .before .before .before .before .before .before .before .before .before .before .before .before .before .before .before .before .before .before .pre .0), (first-ready (c .before .before .before .before .before .before .before .before .before .before .before .before .before .before .before .before .before .before .before .before .before .before .before .before .before .before .before .before .before .before .before .before .before .before .before .before .before .before .before .pre .1 .0) (c .before .before .before .before .before .before .before .before .before .before .before .before .before .before .before .before .before .before .before .before .before .before .before .before .before .before .before .before .before .before .before .remaining .ensures) (c .before .before .before .before .before .before .before .before .before .before .before .before .before .before .before .before .before .before .before .before .before .before .before .before .apply-each .ensures .0) (c .before .before .before .before .before .before .before .before .before .before .before .before .before .before .before .before .before .before .r .given .1) (c .before .before .before .before .before .before .before .before .before .before .before .close-list .ensures .0) (c .before .before .before .before .before .before .before .before .before .before .before .before .before .before .before .before .before .before .before .before .before .before .before .before .before .before .before .before .before .before .before .before .before .before .first-member .ensures) (c .before .before .before .before .before .enum-told2 .given .1), c .before .before .before .before .before .before .before .before .before .before .before .close-list .ensures .1 .empty (c .before .before .before .before .before .enum-told2 .given .1)))
 
 apply-list-same-length-3 : (t : ℕ) → apply-list-lts.Need-same-length-3 (apply-list-claims t) (apply-list-at t) apply-list.Post
 apply-list-same-length-3 t c = search needs
@@ -221,7 +224,7 @@ apply-list-same-length-4 : (t : ℕ) → apply-list-lts.Need-same-length-4 (appl
 apply-list-same-length-4 t c = search needs
 
 apply-list-returns-2 : (t : ℕ) → apply-list-lts.Need-returns-2 (apply-list-claims t) (apply-list-at t) apply-list.Post
-apply-list-returns-2 t c = list-emptied (c .before .before .before .before .before .before .before .before .before .before .before .before .before .before .before .before .before .before .before .before .before .before .before .before .before .before .before .before .before .before .before .before .before .before .before .before .before .before .before .before .before .pre .1) (c .before .before .before .before .before .before .before .before .before .before .before .before .before .before .before .before .before .before .before .before .before .before .before .before .before .before .before .before .before .before .before .before .before .remaining .ensures) (c .before .before .before .before .before .before .before .before .before .before .before .before .before .before .before .before .before .before .before .before .before .before .before .before .before .before .before .apply-each .ensures) (c .before .before .before .before .before .before .before .before .before .before .before .before .before .before .before .before .before .before .before .before .before .r .given .1) (c .before .before .before .before .before .before .before .before .before .before .before .before .before .before .before .close-list .ensures) (c .before .before .before .before .before .before .before .before .before .before .before .before .before .before .before .before .before .before .before .before .before .before .before .before .before .before .before .before .before .before .before .before .before .before .before .before .first-member .ensures) (c .before .before .before .before .before .before .before .before .before .enum-told2 .given .1) (c .before .before .before .before .apply-simplification .ensures) (c .before .before .before .before .before .before .before .before .before .before .before .before .before .before .before .before .before .before .before .before .before .before .before .before .before .before .before .apply-each .kept .0) (c .before .before .before .before .before .before .before .before .before .before .before .before .before .before .before .before .before .before .before .before .before .before .before .before .before .before .before .apply-each .kept .1 .0)
+apply-list-returns-2 t c = (list-emptied (c .before .before .before .before .before .before .before .before .before .before .before .before .before .before .before .before .before .before .before .before .before .before .before .before .before .before .before .before .before .before .before .before .before .before .before .before .before .before .before .before .before .before .before .before .pre .1 .0) (c .before .before .before .before .before .before .before .before .before .before .before .before .before .before .before .before .before .before .before .before .before .before .before .before .before .before .before .before .before .before .before .before .before .before .before .before .remaining .ensures) (c .before .before .before .before .before .before .before .before .before .before .before .before .before .before .before .before .before .before .before .before .before .before .before .before .before .before .before .before .before .apply-each .ensures .0) (c .before .before .before .before .before .before .before .before .before .before .before .before .before .before .before .before .before .before .before .before .before .before .before .r .given .1) (c .before .before .before .before .before .before .before .before .before .before .before .before .before .before .before .before .close-list .ensures .0) (c .before .before .before .before .before .before .before .before .before .before .before .before .before .before .before .before .before .before .before .before .before .before .before .before .before .before .before .before .before .before .before .before .before .before .before .before .before .before .before .first-member .ensures) (c .before .before .before .before .before .before .before .before .before .before .enum-told2 .given .1) (c .before .before .before .before .apply-simplification .ensures .0) (c .before .before .before .before .before .before .before .before .before .before .before .before .before .before .before .before .before .before .before .before .before .before .before .before .before .before .before .before .before .apply-each .kept .0) (c .before .before .before .before .before .before .before .before .before .before .before .before .before .before .before .before .before .before .before .before .before .before .before .before .before .before .before .before .before .apply-each .kept .1 .0), c .before .before .before .before .apply-simplification .ensures .1)
 
 apply-list-same-length-5 : (t : ℕ) → apply-list-lts.Need-same-length-5 (apply-list-claims t) (apply-list-at t) apply-list.Post
 apply-list-same-length-5 t c = search needs
@@ -230,20 +233,20 @@ apply-list-same-length-6 : (t : ℕ) → apply-list-lts.Need-same-length-6 (appl
 apply-list-same-length-6 t c = search needs
 
 apply-list-returns-3 : (t : ℕ) → apply-list-lts.Need-returns-3 (apply-list-claims t) (apply-list-at t) apply-list.Post
-apply-list-returns-3 t c = list-done (c .before .before .before .before .before .before .before .before .before .before .before .before .before .before .before .before .before .before .before .before .before .before .before .before .before .before .before .before .before .before .before .before .before .pre .1) (c .before .before .before .before .before .before .before .before .before .before .before .before .before .before .before .before .before .before .before .before .before .before .before .before .before .remaining .ensures) (c .before .before .before .before .before .before .before .before .before .before .before .before .before .before .before .before .before .before .before .apply-each .ensures) (c .before .before .before .before .before .before .before .before .before .before .before .before .before .r .given .1) (c .before .before .before .before .before .before .before .close-list .ensures) (c .before .closed .given .1) (search needs) (search needs) (search needs) (search needs)
+apply-list-returns-3 t c = (list-done (c .before .before .before .before .before .before .before .before .before .before .before .before .before .before .before .before .before .before .before .before .before .before .before .before .before .before .before .before .before .before .before .before .before .before .before .pre .1 .0) (c .before .before .before .before .before .before .before .before .before .before .before .before .before .before .before .before .before .before .before .before .before .before .before .before .before .before .before .remaining .ensures) (c .before .before .before .before .before .before .before .before .before .before .before .before .before .before .before .before .before .before .before .before .apply-each .ensures .0) (c .before .before .before .before .before .before .before .before .before .before .before .before .before .before .r .given .1) (c .before .before .before .before .before .before .before .close-list .ensures .0) (c .before .closed .given .1) (search needs) (search needs) (search needs) (search needs), c .before .before .before .before .before .before .before .close-list .ensures .1 .after _ (c .before .closed .given .1))
 
 apply-simplification-cached-requires : (t : ℕ) → apply-simplification-lts.Need-cached-requires (apply-simplification-claims t) (apply-simplification-at t) apply-simplification.Post
 apply-simplification-cached-requires t c κs = search ready-small
 
-apply-simplification-sub-t16 : (t : ℕ) → apply-simplification-lts.Need-sub-t16 (apply-simplification-claims t) (apply-simplification-at t) apply-simplification.Post
-apply-simplification-sub-t16 t c = search needs
+apply-simplification-sub-t17 : (t : ℕ) → apply-simplification-lts.Need-sub-t17 (apply-simplification-claims t) (apply-simplification-at t) apply-simplification.Post
+apply-simplification-sub-t17 t c = search needs
 
 apply-simplification-returns : (t : ℕ) → apply-simplification-lts.Need-returns (apply-simplification-claims t) (apply-simplification-at t) apply-simplification.Post
-apply-simplification-returns t c = search cached-done
+apply-simplification-returns t c = (search cached-done, search covers-kept)
 
 apply-simplification-apply-simplification-uncached-requires :
     (t : ℕ) → apply-simplification-lts.Need-apply-simplification-uncached-requires (apply-simplification-claims t) (apply-simplification-at t) apply-simplification.Post
-apply-simplification-apply-simplification-uncached-requires t c κs = (search same-falls, search needs)
+apply-simplification-apply-simplification-uncached-requires t c κs = (search same-falls, (search needs, search needs))
 
 apply-simplification-enum-known-r : (t : ℕ) → apply-simplification-lts.Need-enum-known-r (apply-simplification-claims t) (apply-simplification-at t) apply-simplification.Post
 apply-simplification-enum-known-r t c = search needs
@@ -258,10 +261,10 @@ apply-simplification-same-length-2 : (t : ℕ) → apply-simplification-lts.Need
 apply-simplification-same-length-2 t c = search needs
 
 apply-simplification-returns-2 : (t : ℕ) → apply-simplification-lts.Need-returns-2 (apply-simplification-claims t) (apply-simplification-at t) apply-simplification.Post
-apply-simplification-returns-2 t c = search needs
+apply-simplification-returns-2 t c = (search needs, search needs)
 
 apply-simplification-remember-requires : (t : ℕ) → apply-simplification-lts.Need-remember-requires (apply-simplification-claims t) (apply-simplification-at t) apply-simplification.Post
-apply-simplification-remember-requires t c κs = search (remember-room (c .before .before .before .before .before .before .before .before .before .before .before .before .before .before .before .before .before .before .before .before .pre .1) (c .before .before .before .before .before .before .before .before .before .apply-simplification-uncached .ensures))
+apply-simplification-remember-requires t c κs = remember-room (c .before .before .before .before .before .before .before .before .before .before .before .before .before .before .before .before .before .before .before .before .before .pre .1 .0) (c .before .before .before .before .before .before .before .before .before .apply-simplification-uncached .ensures .0) (c .before .before .before .r .given .1)
 
 apply-simplification-same-length-3 : (t : ℕ) → apply-simplification-lts.Need-same-length-3 (apply-simplification-claims t) (apply-simplification-at t) apply-simplification.Post
 apply-simplification-same-length-3 t c = search needs
@@ -270,7 +273,7 @@ apply-simplification-same-length-4 : (t : ℕ) → apply-simplification-lts.Need
 apply-simplification-same-length-4 t c = search needs
 
 apply-simplification-returns-3 : (t : ℕ) → apply-simplification-lts.Need-returns-3 (apply-simplification-claims t) (apply-simplification-at t) apply-simplification.Post
-apply-simplification-returns-3 t c = search remembered
+apply-simplification-returns-3 t c = (remembered (c .before .before .before .before .before .before .before .before .before .before .before .before .before .before .before .before .before .before .before .before .before .before .pre .1 .0) (c .before .before .before .before .before .before .before .before .before .before .apply-simplification-uncached .ensures .0) (c .before .before .before .before .r .given .1) (search needs) (search needs) (c .remember .ensures), covers-told (c .before .before .before .before .before .before .before .before .before .before .apply-simplification-uncached .ensures .1) (c .before .before .before .before .r .given .1))
 
 apply-simplification-uncached-wide-requires :
     (t : ℕ) → apply-simplification-uncached-lts.Need-wide-requires (apply-simplification-uncached-claims t) (apply-simplification-uncached-at t) apply-simplification-uncached.Post
@@ -282,7 +285,7 @@ apply-simplification-uncached-kind-at-requires t c κs = search ready-wide
 
 apply-simplification-uncached-apply-list-requires :
     (t : ℕ) → apply-simplification-uncached-lts.Need-apply-list-requires (apply-simplification-uncached-claims t) (apply-simplification-uncached-at t) apply-simplification-uncached.Post
-apply-simplification-uncached-apply-list-requires t c κs = (search list-falls, search list-ready)
+apply-simplification-uncached-apply-list-requires t c κs = (search list-falls, (search list-ready, search needs))
 
 apply-simplification-uncached-same-length :
     (t : ℕ) → apply-simplification-uncached-lts.Need-same-length (apply-simplification-uncached-claims t) (apply-simplification-uncached-at t) apply-simplification-uncached.Post
@@ -293,7 +296,7 @@ apply-simplification-uncached-same-length-2 :
 apply-simplification-uncached-same-length-2 t c = search needs
 
 apply-simplification-uncached-returns : (t : ℕ) → apply-simplification-uncached-lts.Need-returns (apply-simplification-uncached-claims t) (apply-simplification-uncached-at t) apply-simplification-uncached.Post
-apply-simplification-uncached-returns t c = search needs
+apply-simplification-uncached-returns t c = (search needs, search needs)
 
 apply-simplification-uncached-all-children-requires :
     (t : ℕ) → apply-simplification-uncached-lts.Need-all-children-requires (apply-simplification-uncached-claims t) (apply-simplification-uncached-at t) apply-simplification-uncached.Post
@@ -301,7 +304,7 @@ apply-simplification-uncached-all-children-requires t c κs = search ready-range
 
 apply-simplification-uncached-apply-each-requires :
     (t : ℕ) → apply-simplification-uncached-lts.Need-apply-each-requires (apply-simplification-uncached-claims t) (apply-simplification-uncached-at t) apply-simplification-uncached.Post
-apply-simplification-uncached-apply-each-requires t c κs = (search each-falls, search children-ready)
+apply-simplification-uncached-apply-each-requires t c κs = (search each-falls, (search children-ready, search needs))
 
 apply-simplification-uncached-enum-known-r :
     (t : ℕ) → apply-simplification-uncached-lts.Need-enum-known-r (apply-simplification-uncached-claims t) (apply-simplification-uncached-at t) apply-simplification-uncached.Post
@@ -325,11 +328,11 @@ apply-simplification-uncached-same-length-4 t c = search needs
 
 apply-simplification-uncached-returns-2 :
     (t : ℕ) → apply-simplification-uncached-lts.Need-returns-2 (apply-simplification-uncached-claims t) (apply-simplification-uncached-at t) apply-simplification-uncached.Post
-apply-simplification-uncached-returns-2 t c = other-refused (c .before .before .before .before .before .before .before .before .before .before .before .before .before .before .before .before .before .before .before .before .before .before .before .pre .1) (c .before .before .before .before .before .before .before .before .before .before .before .before .before .all-children .ensures) (c .before .before .before .before .before .before .before .apply-each .ensures) (c .before .before .before .before .before .before .before .before .before .before .before .before .before .before .before .before .before .before .wide .ensures) (c .before .before .before .before .before .before .before .before .before .before .before .before .before .before .before .before .before .kind-at .ensures) (search needs) (told-on run.Refused run-out (λ e. refl) (c .before .enum-told .given .1) (c .refusal .ensures))
+apply-simplification-uncached-returns-2 t c = (other-refused (c .before .before .before .before .before .before .before .before .before .before .before .before .before .before .before .before .before .before .before .before .before .before .before .before .pre .1 .0) (c .before .before .before .before .before .before .before .before .before .before .before .before .before .before .all-children .ensures) (c .before .before .before .before .before .before .before .apply-each .ensures .0) (c .before .before .before .before .before .before .before .before .before .before .before .before .before .before .before .before .before .before .before .wide .ensures) (c .before .before .before .before .before .before .before .before .before .before .before .before .before .before .before .before .before .before .kind-at .ensures) (search needs) (told-on run.Refused run-out (λ e. refl) (c .before .enum-told .given .1) (c .refusal .ensures)), covers-refused)
 
 apply-simplification-uncached-rebuild-requires :
     (t : ℕ) → apply-simplification-uncached-lts.Need-rebuild-requires (apply-simplification-uncached-claims t) (apply-simplification-uncached-at t) apply-simplification-uncached.Post
-apply-simplification-uncached-rebuild-requires t c κs = rebuilding (c .before .before .before .before .before .before .before .before .before .before .before .before .before .before .before .before .before .before .before .before .before .before .before .before .before .before .before .pre .1) (c .before .before .before .before .before .before .before .before .before .before .before .before .before .before .before .before .before .all-children .ensures) (c .before .before .before .before .before .before .before .before .before .before .before .apply-each .ensures) (c .before .before .before .before .before .r .given .1)
+apply-simplification-uncached-rebuild-requires t c κs = (rebuilding (c .before .before .before .before .before .before .before .before .before .before .before .before .before .before .before .before .before .before .before .before .before .before .before .before .before .before .before .before .before .pre .1 .0) (c .before .before .before .before .before .before .before .before .before .before .before .before .before .before .before .before .before .before .before .all-children .ensures) (c .before .before .before .before .before .before .before .before .before .before .before .before .apply-each .ensures .0) (c .before .before .before .before .before .before .r .given .1), c .before .before .before .before .before .before .before .before .before .before .before .before .apply-each .ensures .1 .is _ (c .before .before .before .before .before .before .r .given .1))
 
 apply-simplification-uncached-same-length-5 :
     (t : ℕ) → apply-simplification-uncached-lts.Need-same-length-5 (apply-simplification-uncached-claims t) (apply-simplification-uncached-at t) apply-simplification-uncached.Post
@@ -341,7 +344,7 @@ apply-simplification-uncached-same-length-6 t c = search needs
 
 apply-simplification-uncached-returns-3 :
     (t : ℕ) → apply-simplification-uncached-lts.Need-returns-3 (apply-simplification-uncached-claims t) (apply-simplification-uncached-at t) apply-simplification-uncached.Post
-apply-simplification-uncached-returns-3 t c = other-done (c .before .before .before .before .before .before .before .before .before .before .before .before .before .before .before .before .before .before .before .before .before .before .before .before .before .before .before .before .before .before .before .before .pre .1) (c .before .before .before .before .before .before .before .before .before .before .before .before .before .before .before .before .before .before .before .before .before .before .all-children .ensures) (c .before .before .before .before .before .before .before .before .before .before .before .before .before .before .before .before .apply-each .ensures) (c .before .before .before .before .before .before .before .before .before .before .r .given .1) (c .before .before .before .before .rebuild .ensures) (c .before .before .before .before .before .before .before .before .before .before .before .before .before .before .before .before .before .before .before .before .before .before .before .before .before .before .before .wide .ensures) (c .before .before .before .before .before .before .before .before .before .before .before .before .before .before .before .before .before .before .before .before .before .before .before .before .before .before .kind-at .ensures) (search needs) (search needs) (search needs) (search needs) (search needs)
+apply-simplification-uncached-returns-3 t c = (other-done (c .before .before .before .before .before .before .before .before .before .before .before .before .before .before .before .before .before .before .before .before .before .before .before .before .before .before .before .before .before .before .before .before .before .before .pre .1 .0) (c .before .before .before .before .before .before .before .before .before .before .before .before .before .before .before .before .before .before .before .before .before .before .before .before .all-children .ensures) (c .before .before .before .before .before .before .before .before .before .before .before .before .before .before .before .before .before .apply-each .ensures .0) (c .before .before .before .before .before .before .before .before .before .before .before .r .given .1) (c .before .before .before .before .rebuild .ensures .0) (c .before .before .before .before .before .before .before .before .before .before .before .before .before .before .before .before .before .before .before .before .before .before .before .before .before .before .before .before .before .wide .ensures) (c .before .before .before .before .before .before .before .before .before .before .before .before .before .before .before .before .before .before .before .before .before .before .before .before .before .before .before .before .kind-at .ensures) (c .before .before .before .before .before .before .before .before .before .before .before .before .before .before .before .before .before .before .before .before .before .before .before .before .before .before .before .if1 .left) (search needs) (search needs) (search needs) (search needs), c .before .before .before .before .rebuild .ensures .1)
 
 pub +apply-each+apply-list+apply-simplification+apply-simplification-uncached-spec :
     {M : Type 1} → statement M
@@ -399,7 +402,7 @@ pub +apply-each+apply-list+apply-simplification+apply-simplification-uncached-sp
     (apply-simplification-at t)
     apply-simplification.Post
     (apply-simplification-cached-requires t)
-    (apply-simplification-sub-t16 t)
+    (apply-simplification-sub-t17 t)
     (apply-simplification-returns t)
     (apply-simplification-apply-simplification-uncached-requires t)
     (apply-simplification-enum-known-r t)

@@ -11,7 +11,7 @@ one-signed-requires : tie.Need-one-signed-requires
 one-signed-requires c κs = search needs
 
 apply-simplification-requires : tie.Need-apply-simplification-requires
-apply-simplification-requires c κs = search once-ready
+apply-simplification-requires c κs = (search once-ready, search needs)
 
 same-length : tie.Need-same-length
 same-length c = search needs
@@ -20,7 +20,7 @@ same-length-2 : tie.Need-same-length-2
 same-length-2 c = search needs
 
 returns : tie.Need-returns
-returns c = search once-done
+returns c = (search once-done, search needs)
 
 pub simplify-once-spec : {M : Type 1} → statement M
 simplify-once-spec =

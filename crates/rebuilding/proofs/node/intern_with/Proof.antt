@@ -19,11 +19,11 @@ add-len c = search length-fits
 array-share-prefix-new : tie.Need-array-share-prefix-new
 array-share-prefix-new c = search prefix-in
 
-slice-aggregate-intern-node : tie.Need-slice-aggregate-intern-node
-slice-aggregate-intern-node c = search prefix-length
+slice-aggregate-intern-filtered : tie.Need-slice-aggregate-intern-filtered
+slice-aggregate-intern-filtered c = search prefix-length
 
-intern-node-requires : tie.Need-intern-node-requires
-intern-node-requires c κs = search fresh
+intern-filtered-requires : tie.Need-intern-filtered-requires
+intern-filtered-requires c κs = (fresh (c .before .before .before .before .before .before .before .before .before .before .before .before .pre .0) (c .before .before .before .before .before .before .before .wide .ensures) (c .before .before .before .before .before .before .node-at .ensures) (c .before .before .before .before .before .before .before .before .before .before .before .before .pre .1 .0) (c .before .before .before .before .exchange .ensures), search needs)
 
 same-length : tie.Need-same-length
 same-length c = search needs
@@ -32,7 +32,7 @@ same-length-2 : tie.Need-same-length-2
 same-length-2 c = search needs
 
 returns : tie.Need-returns
-returns c = search rebuilt
+returns c = (search rebuilt, search needs)
 
 pub intern-with-spec : {M : Type 1} → statement M
 intern-with-spec =
@@ -43,8 +43,8 @@ intern-with-spec =
     exchange-requires
     add-len
     array-share-prefix-new
-    slice-aggregate-intern-node
-    intern-node-requires
+    slice-aggregate-intern-filtered
+    intern-filtered-requires
     same-length
     same-length-2
     returns)

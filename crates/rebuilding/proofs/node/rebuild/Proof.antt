@@ -1,4 +1,5 @@
 -- A node with its own children is there already; one with others has a child.
+use Rattle.node_filter.proofs.Filters.{covers-kept}
 use Rattle.rebuilding.proofs.Interning.{one-each, unchanged, some-item}
 use borrow.Author.Needs.{needs}
 use Rattle.rebuilding.proofs.node.rebuild.Statement.{statement}
@@ -23,10 +24,10 @@ same-length-2 : tie.Need-same-length-2
 same-length-2 c = search needs
 
 returns : tie.Need-returns
-returns c = search unchanged
+returns c = (search unchanged, search covers-kept)
 
 intern-with-requires : tie.Need-intern-with-requires
-intern-with-requires c κs = search some-item
+intern-with-requires c κs = (search needs, (search some-item, search needs))
 
 same-length-3 : tie.Need-same-length-3
 same-length-3 c = search needs

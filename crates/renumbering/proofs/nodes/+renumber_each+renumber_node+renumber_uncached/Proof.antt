@@ -5,10 +5,13 @@ use borrow.Author.Needs.{needs}
 use Rattle.types.proofs.Refusals.{told-on}
 use Rattle.node_store.specs.Intern.{interned-out}
 use Rattle.node_store.specs.declared.added.Interned.the-variants as interned
+use Rattle.node_filter.specs.Inner.Filter.{CoversLent}
+use Rattle.node_filter.proofs.Filters.{covers-kept, covers-refused, covers-told}
 use Rattle.recursion.specs.Inner.Work.{run-out}
 use Rattle.recursion.specs.declared.Run.the-variants as run
 use Rattle.recursion.proofs.Remembering.{ready-small, cached-done, remember-room, remembered}
 use Rattle.recursion.proofs.Turns.{Turn, turn-start, turn-item, turn-falls, turn-ready, turn-refused, turn-more, turn-done}
+use Rattle.recursion.proofs.Covering.{covers-stopped, covers-went}
 use Rattle.renumbering.specs.Renumbered.{renumbered}
 use Rattle.renumbering.specs.Inner.{Numbered}
 use Rattle.renumbering.proofs.Renumbering.{lawful}
@@ -37,53 +40,53 @@ use Rattle.renumbering.proofs.nodes.+renumber_each+renumber_node+renumb
 use Rattle.node_store.proofs.added.Interned.refusal.Reads as added-Interned-refusal-reads
 use Rattle.recursion.proofs.Run.refusal.Reads as Run-refusal-reads
 
-abbrev μ-renumber-each : Measures 5 renumber-each-kinds.ps ℕ
+abbrev μ-renumber-each : Measures 6 renumber-each-kinds.ps ℕ
 μ-renumber-each κs a = 3 * (a .1 .1 .1 .0)
 
-abbrev μ-renumber-node : Measures 4 renumber-node-kinds.ps ℕ
+abbrev μ-renumber-node : Measures 5 renumber-node-kinds.ps ℕ
 μ-renumber-node κs a = 3 * (a .1 .1 .1 .0) + 2
 
-abbrev μ-renumber-uncached : Measures 4 renumber-uncached-kinds.ps ℕ
+abbrev μ-renumber-uncached : Measures 5 renumber-uncached-kinds.ps ℕ
 μ-renumber-uncached κs a = 3 * (a .1 .1 .1 .0) + 1
 
-abbrev renumber-each-at : ℕ → In 5 renumber-each-kinds.ps
+abbrev renumber-each-at : ℕ → In 6 renumber-each-kinds.ps
 renumber-each-at t =
-    and 5 renumber-each-kinds.ps (is 5 renumber-each-kinds.ps μ-renumber-each t) renumber-each.Pre
+    and 6 renumber-each-kinds.ps (is 6 renumber-each-kinds.ps μ-renumber-each t) renumber-each.Pre
 
-abbrev renumber-each-below : ℕ → In 5 renumber-each-kinds.ps
+abbrev renumber-each-below : ℕ → In 6 renumber-each-kinds.ps
 renumber-each-below t =
     and
-    5
+    6
     renumber-each-kinds.ps
-    (falls 5 renumber-each-kinds.ps _<_ μ-renumber-each t)
+    (falls 6 renumber-each-kinds.ps _<_ μ-renumber-each t)
     renumber-each.Pre
 
-abbrev renumber-node-at : ℕ → In 4 renumber-node-kinds.ps
+abbrev renumber-node-at : ℕ → In 5 renumber-node-kinds.ps
 renumber-node-at t =
-    and 4 renumber-node-kinds.ps (is 4 renumber-node-kinds.ps μ-renumber-node t) renumber-node.Pre
+    and 5 renumber-node-kinds.ps (is 5 renumber-node-kinds.ps μ-renumber-node t) renumber-node.Pre
 
-abbrev renumber-node-below : ℕ → In 4 renumber-node-kinds.ps
+abbrev renumber-node-below : ℕ → In 5 renumber-node-kinds.ps
 renumber-node-below t =
     and
-    4
+    5
     renumber-node-kinds.ps
-    (falls 4 renumber-node-kinds.ps _<_ μ-renumber-node t)
+    (falls 5 renumber-node-kinds.ps _<_ μ-renumber-node t)
     renumber-node.Pre
 
-abbrev renumber-uncached-at : ℕ → In 4 renumber-uncached-kinds.ps
+abbrev renumber-uncached-at : ℕ → In 5 renumber-uncached-kinds.ps
 renumber-uncached-at t =
     and
-    4
+    5
     renumber-uncached-kinds.ps
-    (is 4 renumber-uncached-kinds.ps μ-renumber-uncached t)
+    (is 5 renumber-uncached-kinds.ps μ-renumber-uncached t)
     renumber-uncached.Pre
 
-abbrev renumber-uncached-below : ℕ → In 4 renumber-uncached-kinds.ps
+abbrev renumber-uncached-below : ℕ → In 5 renumber-uncached-kinds.ps
 renumber-uncached-below t =
     and
-    4
+    5
     renumber-uncached-kinds.ps
-    (falls 4 renumber-uncached-kinds.ps _<_ μ-renumber-uncached t)
+    (falls 5 renumber-uncached-kinds.ps _<_ μ-renumber-uncached t)
     renumber-uncached.Pre
 
 abbrev renumber-each-claims : ℕ → renumber-each-lts.Claims
@@ -96,19 +99,19 @@ abbrev renumber-uncached-claims : ℕ → renumber-uncached-lts.Claims
 renumber-uncached-claims t = (wide-reads.Asked, wide-reads.Learnt, kind-at-reads.Asked, kind-at-reads.Learnt, renumber-var-reads.Asked, renumber-var-reads.Learnt, all-children-reads.Asked, all-children-reads.Learnt, renumber-each-below t, renumber-each.Post, Run-refusal-reads.Asked, Run-refusal-reads.Learnt, rebuild-reads.Asked, rebuild-reads.Learnt)
 
 abbrev renumber-each-Inv-loop : renumber-each-lts.InvT-loop
-renumber-each-Inv-loop words₀ starts₀ n items₀ count vars cache₀ last₀ i₀ words starts items cache last i = Turn (renumbered vars) (Numbered vars) words₀ starts₀ last₀ n items₀ count cache₀ words starts items cache last i
+renumber-each-Inv-loop words₀ starts₀ n items₀ count vars cache₀ filter₀ last₀ i₀ words starts items cache filter last i = Turn (renumbered vars) (Numbered vars) words₀ starts₀ last₀ n items₀ count cache₀ words starts items cache last i × CoversLent words starts last filter
 
 abbrev renumber-each-μ-loop : renumber-each-lts.MeasureT-loop
-renumber-each-μ-loop words₀ starts₀ n items₀ count vars cache₀ last₀ i₀ words starts items cache last i = count - i
+renumber-each-μ-loop words₀ starts₀ n items₀ count vars cache₀ filter₀ last₀ i₀ words starts items cache filter last i = count - i
 
 renumber-each-loop-holds : (t : ℕ) → renumber-each-lts.Need-loop-holds (renumber-each-claims t) (renumber-each-at t) renumber-each.Post renumber-each-Inv-loop renumber-each-μ-loop
-renumber-each-loop-holds t c = search turn-start
+renumber-each-loop-holds t c = (search turn-start, search needs)
 
 renumber-each-item-at-requires : (t : ℕ) → renumber-each-lts.Need-item-at-requires (renumber-each-claims t) (renumber-each-at t) renumber-each.Post renumber-each-Inv-loop renumber-each-μ-loop
 renumber-each-item-at-requires t c κs = search turn-item
 
 renumber-each-renumber-node-requires : (t : ℕ) → renumber-each-lts.Need-renumber-node-requires (renumber-each-claims t) (renumber-each-at t) renumber-each.Post renumber-each-Inv-loop renumber-each-μ-loop
-renumber-each-renumber-node-requires t c κs = (search turn-falls, search (turn-ready, lawful))
+renumber-each-renumber-node-requires t c κs = (search turn-falls, (search (turn-ready, lawful), search needs))
 
 renumber-each-enum-known-r : (t : ℕ) → renumber-each-lts.Need-enum-known-r (renumber-each-claims t) (renumber-each-at t) renumber-each.Post renumber-each-Inv-loop renumber-each-μ-loop
 renumber-each-enum-known-r t c = search needs
@@ -126,7 +129,7 @@ renumber-each-same-length-2 : (t : ℕ) → renumber-each-lts.Need-same-length-2
 renumber-each-same-length-2 t c = search needs
 
 renumber-each-returns : (t : ℕ) → renumber-each-lts.Need-returns (renumber-each-claims t) (renumber-each-at t) renumber-each.Post renumber-each-Inv-loop renumber-each-μ-loop
-renumber-each-returns t c = turn-refused (c .before .before .before .before .before .before .before .before .before .before .before .before .before .before .loop .inv) (c .before .before .before .before .before .before .before .before .before .before .before .before .before .loop-test .taken) (c .before .before .before .before .before .before .before .before .before .before .before .item-at .ensures) lawful (c .before .before .before .before .before .before .before .renumber-node .ensures) (told-on interned.Refused interned-out (λ e. refl) (c .before .enum-told .given .1) (c .refusal .ensures))
+renumber-each-returns t c = (turn-refused (c .before .before .before .before .before .before .before .before .before .before .before .before .before .before .before .loop .inv .0) (c .before .before .before .before .before .before .before .before .before .before .before .before .before .before .loop-test .taken) (c .before .before .before .before .before .before .before .before .before .before .before .before .item-at .ensures) lawful (c .before .before .before .before .before .before .before .renumber-node .ensures .0) (told-on interned.Refused interned-out (λ e. refl) (c .before .enum-told .given .1) (c .refusal .ensures)), covers-stopped)
 
 renumber-each-mul-items : (t : ℕ) → renumber-each-lts.Need-mul-items (renumber-each-claims t) (renumber-each-at t) renumber-each.Post renumber-each-Inv-loop renumber-each-μ-loop
 renumber-each-mul-items t c = search needs
@@ -141,7 +144,7 @@ renumber-each-loop-less : (t : ℕ) → renumber-each-lts.Need-loop-less (renumb
 renumber-each-loop-less t c = search needs
 
 renumber-each-loop-again : (t : ℕ) → renumber-each-lts.Need-loop-again (renumber-each-claims t) (renumber-each-at t) renumber-each.Post renumber-each-Inv-loop renumber-each-μ-loop
-renumber-each-loop-again t c = turn-more (c .before .before .before .before .before .before .before .before .before .before .before .before .before .before .loop .inv) (c .before .before .before .before .before .before .before .before .before .before .before .before .before .loop-test .taken) (c .before .before .before .before .before .before .before .before .before .before .before .item-at .ensures) lawful (c .before .before .before .before .before .before .before .renumber-node .ensures) (c .before .r .given .1) (search needs) (search needs)
+renumber-each-loop-again t c = (turn-more (c .before .before .before .before .before .before .before .before .before .before .before .before .before .before .before .loop .inv .0) (c .before .before .before .before .before .before .before .before .before .before .before .before .before .before .loop-test .taken) (c .before .before .before .before .before .before .before .before .before .before .before .before .item-at .ensures) lawful (c .before .before .before .before .before .before .before .renumber-node .ensures .0) (c .before .r .given .1) (search needs) (search needs), c .before .before .before .before .before .before .before .renumber-node .ensures .1 .is _ _ (c .before .r .given .1))
 
 renumber-each-same-length-3 : (t : ℕ) → renumber-each-lts.Need-same-length-3 (renumber-each-claims t) (renumber-each-at t) renumber-each.Post renumber-each-Inv-loop renumber-each-μ-loop
 renumber-each-same-length-3 t c = search needs
@@ -150,16 +153,16 @@ renumber-each-same-length-4 : (t : ℕ) → renumber-each-lts.Need-same-length-4
 renumber-each-same-length-4 t c = search needs
 
 renumber-each-returns-2 : (t : ℕ) → renumber-each-lts.Need-returns-2 (renumber-each-claims t) (renumber-each-at t) renumber-each.Post renumber-each-Inv-loop renumber-each-μ-loop
-renumber-each-returns-2 t c = search turn-done
+renumber-each-returns-2 t c = (search turn-done, search covers-went)
 
 renumber-node-cached-requires : (t : ℕ) → renumber-node-lts.Need-cached-requires (renumber-node-claims t) (renumber-node-at t) renumber-node.Post
 renumber-node-cached-requires t c κs = search (ready-small, lawful)
 
-renumber-node-sub-t13 : (t : ℕ) → renumber-node-lts.Need-sub-t13 (renumber-node-claims t) (renumber-node-at t) renumber-node.Post
-renumber-node-sub-t13 t c = search needs
+renumber-node-sub-t14 : (t : ℕ) → renumber-node-lts.Need-sub-t14 (renumber-node-claims t) (renumber-node-at t) renumber-node.Post
+renumber-node-sub-t14 t c = search needs
 
 renumber-node-returns : (t : ℕ) → renumber-node-lts.Need-returns (renumber-node-claims t) (renumber-node-at t) renumber-node.Post
-renumber-node-returns t c = search (cached-done, lawful)
+renumber-node-returns t c = (search (cached-done, lawful), search covers-kept)
 
 renumber-node-renumber-uncached-requires :
     (t : ℕ) → renumber-node-lts.Need-renumber-uncached-requires (renumber-node-claims t) (renumber-node-at t) renumber-node.Post
@@ -181,7 +184,7 @@ renumber-node-returns-2 : (t : ℕ) → renumber-node-lts.Need-returns-2 (renumb
 renumber-node-returns-2 t c = search needs
 
 renumber-node-remember-requires : (t : ℕ) → renumber-node-lts.Need-remember-requires (renumber-node-claims t) (renumber-node-at t) renumber-node.Post
-renumber-node-remember-requires t c κs = search (remember-room lawful (c .before .before .before .before .before .before .before .before .before .before .before .before .before .before .before .before .before .before .pre .1) (c .before .before .before .before .before .before .before .before .renumber-uncached .ensures))
+renumber-node-remember-requires t c κs = search (remember-room lawful (c .before .before .before .before .before .before .before .before .before .before .before .before .before .before .before .before .before .before .before .pre .1 .0) (c .before .before .before .before .before .before .before .before .renumber-uncached .ensures .0))
 
 renumber-node-same-length-3 : (t : ℕ) → renumber-node-lts.Need-same-length-3 (renumber-node-claims t) (renumber-node-at t) renumber-node.Post
 renumber-node-same-length-3 t c = search needs
@@ -190,7 +193,7 @@ renumber-node-same-length-4 : (t : ℕ) → renumber-node-lts.Need-same-length-4
 renumber-node-same-length-4 t c = search needs
 
 renumber-node-returns-3 : (t : ℕ) → renumber-node-lts.Need-returns-3 (renumber-node-claims t) (renumber-node-at t) renumber-node.Post
-renumber-node-returns-3 t c = search (remembered, lawful)
+renumber-node-returns-3 t c = (search (remembered, lawful), covers-told (c .before .before .before .before .before .before .before .before .before .renumber-uncached .ensures .1) (c .before .before .before .r .given .1))
 
 renumber-uncached-wide-requires : (t : ℕ) → renumber-uncached-lts.Need-wide-requires (renumber-uncached-claims t) (renumber-uncached-at t) renumber-uncached.Post
 renumber-uncached-wide-requires t c κs = search needs
@@ -200,7 +203,7 @@ renumber-uncached-kind-at-requires t c κs = search ready-wide
 
 renumber-uncached-renumber-var-requires :
     (t : ℕ) → renumber-uncached-lts.Need-renumber-var-requires (renumber-uncached-claims t) (renumber-uncached-at t) renumber-uncached.Post
-renumber-uncached-renumber-var-requires t c κs = (search (ready-var (c .before .before .before .before .before .before .before .before .before .before .pre .1) (c .before .before .before .before .wide .ensures) (c .before .before .before .kind-at .ensures)), search (ready-few (c .before .before .before .before .before .before .before .before .before .before .pre .1)))
+renumber-uncached-renumber-var-requires t c κs = (search (ready-var (c .before .before .before .before .before .before .before .before .before .before .before .pre .1 .0) (c .before .before .before .before .before .wide .ensures) (c .before .before .before .before .kind-at .ensures)), (search (ready-few (c .before .before .before .before .before .before .before .before .before .before .before .pre .1 .0)), search needs))
 
 renumber-uncached-same-length : (t : ℕ) → renumber-uncached-lts.Need-same-length (renumber-uncached-claims t) (renumber-uncached-at t) renumber-uncached.Post
 renumber-uncached-same-length t c = search needs
@@ -209,7 +212,7 @@ renumber-uncached-same-length-2 : (t : ℕ) → renumber-uncached-lts.Need-same-
 renumber-uncached-same-length-2 t c = search needs
 
 renumber-uncached-returns : (t : ℕ) → renumber-uncached-lts.Need-returns (renumber-uncached-claims t) (renumber-uncached-at t) renumber-uncached.Post
-renumber-uncached-returns t c = search var-done
+renumber-uncached-returns t c = (search var-done, search needs)
 
 renumber-uncached-all-children-requires :
     (t : ℕ) → renumber-uncached-lts.Need-all-children-requires (renumber-uncached-claims t) (renumber-uncached-at t) renumber-uncached.Post
@@ -217,7 +220,7 @@ renumber-uncached-all-children-requires t c κs = search ready-range
 
 renumber-uncached-renumber-each-requires :
     (t : ℕ) → renumber-uncached-lts.Need-renumber-each-requires (renumber-uncached-claims t) (renumber-uncached-at t) renumber-uncached.Post
-renumber-uncached-renumber-each-requires t c κs = (search each-falls, search children-ready)
+renumber-uncached-renumber-each-requires t c κs = (search each-falls, (search children-ready, search needs))
 
 renumber-uncached-enum-known-r : (t : ℕ) → renumber-uncached-lts.Need-enum-known-r (renumber-uncached-claims t) (renumber-uncached-at t) renumber-uncached.Post
 renumber-uncached-enum-known-r t c = search needs
@@ -235,10 +238,10 @@ renumber-uncached-same-length-4 : (t : ℕ) → renumber-uncached-lts.Need-same-
 renumber-uncached-same-length-4 t c = search needs
 
 renumber-uncached-returns-2 : (t : ℕ) → renumber-uncached-lts.Need-returns-2 (renumber-uncached-claims t) (renumber-uncached-at t) renumber-uncached.Post
-renumber-uncached-returns-2 t c = other-refused (c .before .before .before .before .before .before .before .before .before .before .before .before .before .before .before .before .before .before .before .before .before .before .before .pre .1) (c .before .before .before .before .before .before .before .before .before .before .before .before .before .before .before .before .before .wide .ensures) (c .before .before .before .before .before .before .before .before .before .before .before .before .before .before .before .before .kind-at .ensures) (c .before .before .before .before .before .before .before .before .before .before .before .before .all-children .ensures) (c .before .before .before .before .before .before .before .renumber-each .ensures) (told-on run.Refused run-out (λ e. refl) (c .before .enum-told .given .1) (c .refusal .ensures)) (search needs)
+renumber-uncached-returns-2 t c = (other-refused (c .before .before .before .before .before .before .before .before .before .before .before .before .before .before .before .before .before .before .before .before .before .before .before .before .pre .1 .0) (c .before .before .before .before .before .before .before .before .before .before .before .before .before .before .before .before .before .before .wide .ensures) (c .before .before .before .before .before .before .before .before .before .before .before .before .before .before .before .before .before .kind-at .ensures) (c .before .before .before .before .before .before .before .before .before .before .before .before .before .all-children .ensures) (c .before .before .before .before .before .before .before .renumber-each .ensures .0) (told-on run.Refused run-out (λ e. refl) (c .before .enum-told .given .1) (c .refusal .ensures)) (c .before .before .before .before .before .before .before .before .before .before .before .before .before .before .before .before .if1 .left), covers-refused)
 
 renumber-uncached-rebuild-requires : (t : ℕ) → renumber-uncached-lts.Need-rebuild-requires (renumber-uncached-claims t) (renumber-uncached-at t) renumber-uncached.Post
-renumber-uncached-rebuild-requires t c κs = rebuilding (c .before .before .before .before .before .before .before .before .before .before .before .before .before .before .before .before .before .before .before .before .before .before .before .before .before .before .before .pre .1) (c .before .before .before .before .before .before .before .before .before .before .before .before .before .before .before .before .all-children .ensures) (c .before .before .before .before .before .before .before .before .before .before .before .renumber-each .ensures) (c .before .before .before .before .before .r .given .1)
+renumber-uncached-rebuild-requires t c κs = (rebuilding (c .before .before .before .before .before .before .before .before .before .before .before .before .before .before .before .before .before .before .before .before .before .before .before .before .before .before .before .before .before .pre .1 .0) (c .before .before .before .before .before .before .before .before .before .before .before .before .before .before .before .before .before .before .all-children .ensures) (c .before .before .before .before .before .before .before .before .before .before .before .before .renumber-each .ensures .0) (c .before .before .before .before .before .before .r .given .1), c .before .before .before .before .before .before .before .before .before .before .before .before .renumber-each .ensures .1 .is _ (c .before .before .before .before .before .before .r .given .1))
 
 renumber-uncached-same-length-5 : (t : ℕ) → renumber-uncached-lts.Need-same-length-5 (renumber-uncached-claims t) (renumber-uncached-at t) renumber-uncached.Post
 renumber-uncached-same-length-5 t c = search needs
@@ -247,7 +250,7 @@ renumber-uncached-same-length-6 : (t : ℕ) → renumber-uncached-lts.Need-same-
 renumber-uncached-same-length-6 t c = search needs
 
 renumber-uncached-returns-3 : (t : ℕ) → renumber-uncached-lts.Need-returns-3 (renumber-uncached-claims t) (renumber-uncached-at t) renumber-uncached.Post
-renumber-uncached-returns-3 t c = other-done (c .before .before .before .before .before .before .before .before .before .before .before .before .before .before .before .before .before .before .before .before .before .before .before .before .before .before .before .before .before .before .before .before .pre .1) (c .before .before .before .before .before .before .before .before .before .before .before .before .before .before .before .before .before .before .before .before .before .before .before .before .before .before .wide .ensures) (c .before .before .before .before .before .before .before .before .before .before .before .before .before .before .before .before .before .before .before .before .before .before .before .before .before .kind-at .ensures) (c .before .before .before .before .before .before .before .before .before .before .before .before .before .before .before .before .before .before .before .before .before .all-children .ensures) (c .before .before .before .before .before .before .before .before .before .before .before .before .before .before .before .before .renumber-each .ensures) (c .before .before .before .before .before .before .before .before .before .before .r .given .1) (c .before .before .before .before .rebuild .ensures) (search needs) (search needs) (search needs) (search needs) (search needs)
+renumber-uncached-returns-3 t c = (other-done (c .before .before .before .before .before .before .before .before .before .before .before .before .before .before .before .before .before .before .before .before .before .before .before .before .before .before .before .before .before .before .before .before .before .before .pre .1 .0) (c .before .before .before .before .before .before .before .before .before .before .before .before .before .before .before .before .before .before .before .before .before .before .before .before .before .before .before .before .wide .ensures) (c .before .before .before .before .before .before .before .before .before .before .before .before .before .before .before .before .before .before .before .before .before .before .before .before .before .before .before .kind-at .ensures) (c .before .before .before .before .before .before .before .before .before .before .before .before .before .before .before .before .before .before .before .before .before .before .before .all-children .ensures) (c .before .before .before .before .before .before .before .before .before .before .before .before .before .before .before .before .before .renumber-each .ensures .0) (c .before .before .before .before .before .before .before .before .before .before .before .r .given .1) (c .before .before .before .before .rebuild .ensures .0) (c .before .before .before .before .before .before .before .before .before .before .before .before .before .before .before .before .before .before .before .before .before .before .before .before .before .before .if1 .left) (search needs) (search needs) (search needs) (search needs), c .before .before .before .before .rebuild .ensures .1)
 
 pub +renumber-each+renumber-node+renumber-uncached-spec : {M : Type 1} → statement M
 +renumber-each+renumber-node+renumber-uncached-spec =
@@ -277,7 +280,7 @@ pub +renumber-each+renumber-node+renumber-uncached-spec : {M : Type 1} → state
     (renumber-node-at t)
     renumber-node.Post
     (renumber-node-cached-requires t)
-    (renumber-node-sub-t13 t)
+    (renumber-node-sub-t14 t)
     (renumber-node-returns t)
     (renumber-node-renumber-uncached-requires t)
     (renumber-node-enum-known-r t)

@@ -1,12 +1,12 @@
 -- The words from the head on are copied from their own stretch, and the node with these words is added.
-use Rattle.sheet_reading.proofs.Storing.{node-refused, node-low, node-high, node-stretch, node-room, node-share, node-not-added, node-added}
+use Rattle.sheet_reading.proofs.Storing.{node-refused, node-low, node-high, node-stretch, node-room, node-share, node-not-added, node-added, nodes-refused, nodes-told}
 use mathlib.Core.Path.{refl}
-use borrow.Author.Needs.{needs}
 use Rattle.types.proofs.Refusals.{told-on}
 use Rattle.node_store.specs.Intern.{interned-out}
 use Rattle.node_store.specs.declared.added.Interned.the-variants as interned
 use Rattle.sheet_reading.specs.Inner.Steps.{place-out}
 use Rattle.sheet_reading.specs.declared.bytes.Place.the-variants as place
+use borrow.Author.Needs.{needs}
 use Rattle.sheet_reading.proofs.nodes.read_node.Statement.{statement}
 use Rattle.sheet_reading.proofs.nodes.read_node.Tie as tie
 
@@ -23,7 +23,7 @@ refusal-requires : tie.Need-refusal-requires
 refusal-requires c κs = search needs
 
 returns : tie.Need-returns
-returns c = node-refused (c .before .before .before .node-end .ensures) (told-on place.Refused place-out (λ e. refl) (c .before .enum-told .given .1) (c .refusal .ensures))
+returns c = (node-refused (c .before .before .before .node-end .ensures) (told-on place.Refused place-out (λ e. refl) (c .before .enum-told .given .1) (c .refusal .ensures)), search nodes-refused)
 
 sub-copy-words : tie.Need-sub-copy-words
 sub-copy-words c = search node-low
@@ -44,7 +44,7 @@ slice-aggregate-add-node : tie.Need-slice-aggregate-add-node
 slice-aggregate-add-node c = search node-share
 
 add-node-requires : tie.Need-add-node-requires
-add-node-requires c κs = search needs
+add-node-requires c κs = (search needs, search needs)
 
 enum-known-interned : tie.Need-enum-known-interned
 enum-known-interned c = search needs
@@ -62,7 +62,7 @@ same-length-2 : tie.Need-same-length-2
 same-length-2 c = search needs
 
 returns-2 : tie.Need-returns-2
-returns-2 c = node-not-added (c .before .before .before .before .before .before .before .before .before .before .before .before .before .before .before .before .before .node-end .ensures) (c .before .before .before .before .before .before .before .before .before .before .before .before .before .before .before .place .given .1) (c .before .before .before .before .before .before .before .before .before .before .before .copy-words .ensures) (c .before .before .before .before .before .before .before .add-node .ensures) (told-on interned.Refused interned-out (λ e. refl) (c .before .enum-told2 .given .1) (c .refusal2 .ensures))
+returns-2 c = (node-not-added (c .before .before .before .before .before .before .before .before .before .before .before .before .before .before .before .before .before .before .node-end .ensures) (c .before .before .before .before .before .before .before .before .before .before .before .before .before .before .before .before .place .given .1) (c .before .before .before .before .before .before .before .before .before .before .before .before .copy-words .ensures) (c .before .before .before .before .before .before .before .add-node .ensures .0) (told-on interned.Refused interned-out (λ e. refl) (c .before .enum-told2 .given .1) (c .refusal2 .ensures)), search nodes-refused)
 
 same-length-3 : tie.Need-same-length-3
 same-length-3 c = search needs
@@ -71,7 +71,7 @@ same-length-4 : tie.Need-same-length-4
 same-length-4 c = search needs
 
 returns-3 : tie.Need-returns-3
-returns-3 c = node-added (c .before .before .before .before .before .before .before .before .before .before .before .before .before .before .before .before .before .node-end .ensures) (c .before .before .before .before .before .before .before .before .before .before .before .before .before .before .before .place .given .1) (c .before .before .before .before .before .before .before .before .before .before .before .copy-words .ensures) (c .before .before .before .before .before .before .before .add-node .ensures) (c .before .interned .given .1)
+returns-3 c = (node-added (c .before .before .before .before .before .before .before .before .before .before .before .before .before .before .before .before .before .before .node-end .ensures) (c .before .before .before .before .before .before .before .before .before .before .before .before .before .before .before .before .place .given .1) (c .before .before .before .before .before .before .before .before .before .before .before .before .copy-words .ensures) (c .before .before .before .before .before .before .before .add-node .ensures .0) (c .before .interned .given .1), search nodes-told)
 
 pub read-node-spec : {M : Type 1} → statement M
 read-node-spec =

@@ -1,20 +1,22 @@
--- The invariant: memory holds the nodes read so far, and those left to read go on from there.
-use Rattle.sheet_reading.proofs.Storing.{Turn, turn-start, turn-ready, turn-stop, turn-more, turn-done}
+-- The invariant: memory holds the nodes read so far, which are in the filter, and those left to read go on from there.
+use Rattle.sheet_reading.proofs.Storing.{Turn, turn-start, turn-ready, turn-covered, turn-stop, turn-more, turn-done}
 use borrow.Author.Needs.{needs}
 use Rattle.sheet_reading.proofs.nodes.read_nodes.Statement.{statement}
 use Rattle.sheet_reading.proofs.nodes.read_nodes.Tie as tie
 
 abbrev Inv-loop : tie.InvT-loop
-Inv-loop bytes first words₀ starts₀ names count at₀ c₀ left₀ words starts at c left = Turn bytes first words₀ starts₀ names count words starts at c left
+Inv-loop bytes first words₀ starts₀ names count at₀ c₀ left₀ filter₀ words starts at c left filter =
+    Turn bytes first words₀ starts₀ names count words starts at c left filter
 
 abbrev μ-loop : tie.MeasureT-loop
-μ-loop bytes first words₀ starts₀ names count at₀ c₀ left₀ words starts at c left = left
+μ-loop bytes first words₀ starts₀ names count at₀ c₀ left₀ filter₀ words starts at c left filter =
+    left
 
 loop-holds : tie.Need-loop-holds Inv-loop μ-loop
 loop-holds c = search turn-start
 
 read-node-requires : tie.Need-read-node-requires Inv-loop μ-loop
-read-node-requires c κs = search turn-ready
+read-node-requires c κs = (search turn-ready, search turn-covered)
 
 enum-known-next : tie.Need-enum-known-next Inv-loop μ-loop
 enum-known-next c = search needs
