@@ -9,7 +9,7 @@ use crate::{Names, OutputTy, Refusal, TyRef};
 /// The nodes of types, each stored once, under the names of one table.
 ///
 /// A refusal leaves the arena as it was. Each call judges the whole arena first, which takes longer the more nodes there
-/// are. Its recursion goes as deep as the type: see [`crate::with_stack`].
+/// are; so little is lent for few nodes, and more when a call needs it. Its recursion goes as deep as the type: see [`crate::with_stack`].
 #[derive(Clone, PartialEq, Eq)]
 pub struct TypeArena {
     memory: Memory,
@@ -23,19 +23,19 @@ pub struct Simplified {
 }
 
 impl TypeArena {
-    /// An empty arena of full size: 4,096 nodes in 16,384 words.
+    /// An empty arena that may grow to the full size: 4,096 nodes in 16,384 words.
     pub fn new(names: Names) -> TypeArena {
         let full = TypeArena::with_capacity(names, ffi::WORDS, ffi::STARTS);
         full.expect("the full size is allowed")
     }
 
-    /// An empty arena for so many words and nodes; 2 if they are over the full size.
+    /// An empty arena that may grow to so many words and nodes; 2 if they are over the full size.
     pub fn with_capacity(names: Names, words: usize, nodes: usize) -> Result<TypeArena, Refusal> {
-        let memory = Memory::new(names, words, nodes)?;
+        let memory = Memory::new(names, (words, nodes))?;
         Ok(TypeArena { memory })
     }
 
-    /// An arena of full size that holds these nodes, which get the numbers 0, 1, and so on. They are judged once, so that
+    /// An arena as `new` makes it that holds these nodes, which get the numbers 0, 1, and so on. They are judged once, so that
     /// many nodes are stored quicker than by `intern`. 2: a node repeats, or a child's number isn't below its own; 3, 4
     /// and 7 as for `intern`.
     pub fn from_nodes(
@@ -51,7 +51,7 @@ impl TypeArena {
     fn lay(&mut self, nodes: impl IntoIterator<Item = OutputTy>) -> Result<(), Refusal> {
         for node in nodes {
             let words = words::encode(&self.memory.names, &node)?;
-            self.memory.lay(&words)?;
+            self.memory.growing(|memory| memory.lay(&words))?;
         }
         self.memory.sound()
     }
@@ -68,11 +68,18 @@ impl TypeArena {
         self.len() == 0
     }
 
+    /// How many words and starts the library is lent at each call, used or not. It grows with the nodes, and says nothing
+    /// about what fits: it is no part of an answer.
+    pub fn lent(&self) -> (usize, usize) {
+        self.memory.lent()
+    }
+
     /// The number of a node, which is added if it isn't there. 3: no member, or over 64 members or fields; 4: a child
     /// that isn't there, or a name that isn't in the table; 7: no room.
     pub fn intern(&mut self, node: OutputTy) -> Result<TyRef, Refusal> {
         let words = words::encode(&self.memory.names, &node)?;
-        self.memory.intern(&words).map(TyRef::from_raw)
+        let number = self.memory.growing(|memory| memory.intern(&words));
+        number.map(TyRef::from_raw)
     }
 
     /// The node of a number; 6 if it isn't there.
@@ -99,7 +106,7 @@ impl TypeArena {
     ) -> Result<(), Refusal> {
         let mut names: Vec<String> = self.names().iter().map(str::to_string).collect();
         names.extend(more.into_iter().map(|name| name.as_ref().to_string()));
-        let (words, nodes) = self.memory.room();
+        let (words, nodes) = self.memory.limit();
         let mut grown = TypeArena::with_capacity(Names::new(names)?, words, nodes)?;
         grown.lay(self.nodes())?;
         *self = grown;
@@ -108,13 +115,15 @@ impl TypeArena {
 
     /// What the type of the root becomes, by the passes of document 01; 6, 7, 8.
     pub fn simplify(&mut self, ty: TyRef) -> Result<Simplified, Refusal> {
-        let (root, passes) = self.memory.simplify(ty.into_raw())?;
+        let made = self.memory.growing(|memory| memory.simplify(ty.into_raw()));
+        let (root, passes) = made?;
         let root = TyRef::from_raw(root);
         Ok(Simplified { root, passes })
     }
 
     fn change(&mut self, change: Change, ty: TyRef) -> Result<TyRef, Refusal> {
-        let root = self.memory.change(change, ty.into_raw());
+        let changed = |memory: &mut Memory| memory.change(change, ty.into_raw());
+        let root = self.memory.growing(changed);
         root.map(TyRef::from_raw)
     }
 
@@ -133,9 +142,9 @@ impl TypeArena {
         self.change(Change::SetOps, ty)
     }
 
-    /// The type alone, in a new arena of the same size with the same names; 6.
+    /// The type alone, in a new arena that may grow as far and has the same names; 6.
     pub fn compact(&self, root: TyRef) -> Result<(TypeArena, TyRef), Refusal> {
-        let (words, nodes) = self.memory.room();
+        let (words, nodes) = self.memory.limit();
         let mut target = TypeArena::with_capacity(self.names().clone(), words, nodes)?;
         let root = self.compact_into(root, &mut target)?;
         Ok((target, root))

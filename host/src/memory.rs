@@ -10,12 +10,19 @@ use crate::{Names, Refusal};
 
 type Reply<T> = Result<T, Refusal>;
 
-/// Lent words and starts with their counters, and the name table that goes with them.
+/// How many words and starts an arena is lent at first: next to nothing beside what a call does anyway, and enough for a
+/// type of 32 nodes with half of it free (docs/HOST.md has the measurement). Both reach the full size by six doublings.
+const FIRST: (usize, usize) = (256, 64);
+
+/// Lent words and starts with their counters, and the name table that goes with them. What is lent doubles when a call
+/// finds no room, up to the limit, so that each answer is that of an arena that is lent all of the limit at once. How much
+/// it is depends on the nodes and the limit alone (`fit`), and not on how they came to be: so equal arenas are lent alike.
 #[derive(Clone, PartialEq, Eq)]
 pub(crate) struct Memory {
     pub names: Names,
-    words: Box<[u32]>,
-    starts: Box<[u32]>,
+    limit: (usize, usize),
+    words: Vec<u32>,
+    starts: Vec<u32>,
     nodes: usize,
     used: usize,
 }
@@ -47,27 +54,66 @@ pub(crate) enum Writing {
 }
 
 impl Memory {
-    /// An empty arena; 2 if it would be over a limit.
-    pub fn new(names: Names, words: usize, starts: usize) -> Reply<Memory> {
-        if words > ffi::WORDS || starts > ffi::STARTS {
+    /// An empty arena that may grow to so many words and starts; 2 if they are over the full size.
+    pub fn new(names: Names, limit: (usize, usize)) -> Reply<Memory> {
+        if limit.0 > ffi::WORDS || limit.1 > ffi::STARTS {
             return Err(Refusal::ARENA);
         }
-        Ok(Memory {
+        let mut memory = Memory {
             names,
-            words: vec![0; words].into(),
-            starts: vec![0; starts].into(),
+            limit,
+            words: Vec::new(),
+            starts: Vec::new(),
             nodes: 0,
             used: 0,
-        })
+        };
+        memory.fit();
+        Ok(memory)
     }
 
     pub fn nodes(&self) -> usize {
         self.nodes
     }
 
-    /// How many words and starts there are, used or not.
-    pub fn room(&self) -> (usize, usize) {
+    /// The most words and starts that it may have.
+    pub fn limit(&self) -> (usize, usize) {
+        self.limit
+    }
+
+    /// How many words and starts the calls are lent, used or not.
+    pub fn lent(&self) -> (usize, usize) {
         (self.words.len(), self.starts.len())
+    }
+
+    /// Lends so many words and starts, but no more than the limit. All past the nodes are zeros, before and after.
+    fn lend(&mut self, (words, starts): (usize, usize)) {
+        self.words.resize(words.min(self.limit.0), 0);
+        self.starts.resize(starts.min(self.limit.1), 0);
+    }
+
+    /// Lends what comes first, doubled until half is free: a call mostly adds no more nodes than there are, and one that
+    /// finds no room has worked in vain.
+    fn fit(&mut self) {
+        let (mut words, mut starts) = FIRST;
+        while words < 2 * self.used || starts < 2 * self.nodes {
+            (words, starts) = (2 * words, 2 * starts);
+        }
+        self.lend((words, starts));
+        self.words.shrink_to_fit();
+        self.starts.shrink_to_fit();
+    }
+
+    /// Asks a call, and while there is no room for it again with twice as much lent, until all of the limit is. What a
+    /// refused call leaves is as it was, so each try begins alike.
+    pub fn growing<T>(&mut self, call: impl Fn(&mut Memory) -> Reply<T>) -> Reply<T> {
+        let mut reply = call(self);
+        while matches!(reply, Err(Refusal::ROOM)) && self.lent() != self.limit {
+            let (words, starts) = self.lent();
+            self.lend((2 * words, 2 * starts));
+            reply = call(self);
+        }
+        self.fit();
+        reply
     }
 
     /// The words of all nodes.
@@ -176,8 +222,17 @@ impl Memory {
         Refusal::judge(answer).map(|()| root_after)
     }
 
-    /// Copies the root's type into a target; the target's names are left to the caller.
+    /// Copies the root's type into a target; the target's names are left to the caller. The target is lent as much as the
+    /// source, and a copy needs no more: so one try is enough, which matters since each judges the source.
     pub fn compact(&self, root: u32, target: &mut Memory) -> Reply<u32> {
+        let ((words, starts), (before, starts_before)) = (self.lent(), target.lent());
+        target.lend((words.max(before), starts.max(starts_before)));
+        let reply = self.copy(root, target);
+        target.fit();
+        reply
+    }
+
+    fn copy(&self, root: u32, target: &mut Memory) -> Reply<u32> {
         let table = self.names.table();
         let mut root_after = 0;
         // SAFETY: see the head of this file.

@@ -51,7 +51,7 @@ fn our_set(attrs: &theirs::AttrSetTy<theirs::TyRef>) -> ours::AttrSetTy {
     }
 }
 
-fn their_node(node: &ours::OutputTy) -> theirs::OutputTy {
+pub fn their_node(node: &ours::OutputTy) -> theirs::OutputTy {
     use theirs::OutputTy::*;
     let list = |members: &[ours::TyRef]| members.iter().copied().map(to_theirs).collect();
     match node {

@@ -111,6 +111,19 @@ fn children(node: &OutputTy) -> Vec<TyRef> {
     }
 }
 
+/// So many random nodes, no two alike, each over those before it.
+pub fn distinct(seed: u64, count: usize) -> Vec<OutputTy> {
+    let mut random = Random::new(seed);
+    let mut made = Vec::new();
+    while made.len() < count {
+        let node = node(&mut random, made.len());
+        if !made.contains(&node) {
+            made.push(node);
+        }
+    }
+    made
+}
+
 /// A random arena in both, and the newest type there that the Rust can walk.
 pub fn type_of(seed: u64) -> (Both, TyRef) {
     let mut random = Random::new(seed);

@@ -1,12 +1,15 @@
 //! Runs each operation on the same types by ours and by the unchanged Rust. `compare/bench-operations` makes the types,
 //! starts this and makes tables of what it writes.
 //!
-//!   operations times FILE ..     the mean of the least times of each call, in ns: the file, the operation, ours in full
-//!                                buffers, ours in snug ones, the Rust
+//!   operations agree FILE ..     compares all answers and arenas, and panics where they differ
+//!   operations times FILE ..     the mean of the least times of each call, in ns: the file, the operation, which of the
+//!                                three (ours in `full` buffers, in `snug` ones, the `rust`), the time
 //!   operations counts FILE ..    what is counted by callgrind from one call of `counted` to the next: the file, the
 //!                                operation, which of the three, how many calls
 //!
-//! A file has cases of operation 8 (docs/COMPARISON.md), a sheet each. Answers and arenas are compared first.
+//! A file has cases of operation 8 (docs/COMPARISON.md), a sheet each. The types of a file `changing` must become others by
+//! each operation that rewrites, and those alone run on them; on files `alike` and `unlike` (src/bin/alike.rs) `unwrap_named`
+//! alone does. On all three ours runs in full buffers alone.
 
 mod ours;
 mod side;
@@ -29,8 +32,19 @@ const ROUNDS: usize = 15;
 /// How long a round of one side goes on, unless one call a type takes longer.
 const ROUND: Duration = Duration::from_millis(4);
 
-/// The types of a file, held three times.
+/// Whether an operation runs on the types of a file of this name.
+fn runs(path: &str, operation: Operation) -> bool {
+    match path {
+        "changing" => operation.rewrites(),
+        "alike" | "unlike" => operation == Operation::UnwrapNamed,
+        _ => true,
+    }
+}
+
+/// The types of a file, held three times; `snug` is empty where not every operation runs.
 struct Held {
+    operations: Vec<(Operation, &'static str)>,
+    given: Vec<(Vec<Node>, u32)>,
     full: Vec<Ours>,
     snug: Vec<Ours>,
     rust: Vec<Theirs>,
@@ -38,7 +52,9 @@ struct Held {
 
 fn hold(path: &str) -> Held {
     let cases = fs::read(path).expect("no such file");
-    let (mut full, mut snug, mut rust) = (vec![], vec![], vec![]);
+    let operations = OPERATIONS.into_iter().filter(|one| runs(path, one.0));
+    let operations: Vec<_> = operations.collect();
+    let (mut given, mut full, mut snug, mut rust) = (vec![], vec![], vec![], vec![]);
     for case in Reader(&cases) {
         let Case::Sheet(bytes) = case else {
             panic!("not a sheet");
@@ -47,18 +63,42 @@ fn hold(path: &str) -> Held {
         let used: usize = nodes.iter().map(|n| n.size()).sum();
         let two = (WORDS.min(2 * used), NODES.min(2 * nodes.len()));
         full.push(Ours::holding(&nodes, &names, root, (WORDS, NODES)));
-        snug.push(Ours::holding(&nodes, &names, root, two));
+        if operations.len() == OPERATIONS.len() {
+            snug.push(Ours::holding(&nodes, &names, root, two));
+        }
         rust.push(Theirs::holding(&nodes, &names, root));
+        given.push((nodes, root));
     }
-    Held { full, snug, rust }
+    Held {
+        operations,
+        given,
+        full,
+        snug,
+        rust,
+    }
 }
 
-fn agree(held: &mut Held, operation: Operation) {
-    for (k, rust) in held.rust.iter_mut().enumerate() {
-        let expected = answer(rust, operation);
-        for ours in [&mut held.full[k], &mut held.snug[k]] {
-            assert_eq!(answer(ours, operation), expected, "{operation:?}");
+fn agree(path: &str) {
+    let mut held = hold(path);
+    for (operation, _) in held.operations {
+        for (k, given) in held.given.iter().enumerate() {
+            let expected = answer(&mut held.rust[k], operation);
+            let changed = changed(&expected, given);
+            assert!(changed || path != "changing", "{operation:?} changed none");
+            let ours = [held.full.get_mut(k), held.snug.get_mut(k)];
+            for ours in ours.into_iter().flatten() {
+                assert_eq!(answer(ours, operation), expected, "{operation:?}");
+            }
         }
+    }
+}
+
+/// Whether the type is another: it has another root, above more nodes than there were, or its copy has other nodes.
+fn changed((answer, after): &(Answer, Vec<Node>), (nodes, root): &(Vec<Node>, u32)) -> bool {
+    match answer {
+        Answer::Number(number) => number != root && after.len() > nodes.len(),
+        Answer::Copy(_, copy) => copy != nodes,
+        _ => false,
     }
 }
 
@@ -94,7 +134,7 @@ impl Least {
     fn of<S: Side>(sides: &mut [S], operation: Operation) -> Least {
         let start = Instant::now();
         time(sides, operation, 1);
-        let calls = (ROUND.as_nanos() / start.elapsed().as_nanos()).clamp(1, 2000) as usize;
+        let calls = (ROUND.as_nanos() / start.elapsed().as_nanos().max(1)).clamp(1, 2000) as usize;
         let each = vec![u64::MAX; calls * sides.len()];
         Least { calls, each }
     }
@@ -120,8 +160,7 @@ fn clock() -> u64 {
 
 fn times(path: &str, clock: u64) {
     let mut held = hold(path);
-    for (operation, name) in OPERATIONS {
-        agree(&mut held, operation);
+    for (operation, name) in held.operations {
         let mut full = Least::of(&mut held.full, operation);
         let mut snug = Least::of(&mut held.snug, operation);
         let mut rust = Least::of(&mut held.rust, operation);
@@ -130,8 +169,11 @@ fn times(path: &str, clock: u64) {
             snug.round(&mut held.snug, operation);
             rust.round(&mut held.rust, operation);
         }
-        let least = [full, snug, rust].map(|least| least.mean(clock).to_string());
-        println!("{path}\t{name}\t{}", least.join("\t"));
+        for (which, least) in [("full", full), ("snug", snug), ("rust", rust)] {
+            if !least.each.is_empty() {
+                println!("{path}\t{name}\t{which}\t{}", least.mean(clock));
+            }
+        }
     }
 }
 
@@ -151,12 +193,15 @@ fn count<S: Side>(path: &str, which: &str, sides: &mut [S], operation: (Operatio
     };
     time(sides, operation.0, turns);
     let calls = turns * sides.len();
+    if calls == 0 {
+        return;
+    }
     counted(format!("{path}\t{}\t{which}\t{calls}", operation.1));
 }
 
 fn counts(path: &str) {
     let mut held = hold(path);
-    for operation in OPERATIONS {
+    for operation in held.operations {
         count(path, "full", &mut held.full, operation);
         count(path, "snug", &mut held.snug, operation);
         count(path, "rust", &mut held.rust, operation);
@@ -165,12 +210,13 @@ fn counts(path: &str) {
 
 fn run() {
     let words: Vec<String> = env::args().skip(1).collect();
-    let (mode, paths) = words.split_first().expect("times or counts, and files");
+    let (mode, paths) = words.split_first().expect("a mode and files");
     for path in paths {
         match mode.as_str() {
+            "agree" => agree(path),
             "times" => times(path, clock()),
             "counts" => counts(path),
-            _ => panic!("times or counts"),
+            _ => panic!("agree, times or counts"),
         }
     }
 }

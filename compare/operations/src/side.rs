@@ -54,11 +54,16 @@ impl Operation {
         }
     }
 
+    /// Whether it makes another type, or a copy.
+    pub fn rewrites(self) -> bool {
+        let renumbers = matches!(self, NormalizeVars | NormalizeReplacingUnknown);
+        renumbers || matches!(self, Compact | NormalizeSetOps | Simplify)
+    }
+
     /// Whether the arena may be another afterwards.
     pub fn changes(self) -> bool {
         let interns = matches!(self, InternStored | InternNew);
-        let renumbers = matches!(self, NormalizeVars | NormalizeReplacingUnknown);
-        interns || renumbers || matches!(self, NormalizeSetOps | Simplify)
+        interns || self.rewrites() && self != Compact
     }
 }
 

@@ -3,9 +3,11 @@
 
 mod build;
 mod deep;
+mod growth;
 mod header;
 mod misuse;
 mod names;
+mod random;
 mod raw;
 mod refusals;
 mod threads;

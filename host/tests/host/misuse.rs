@@ -3,17 +3,9 @@
 
 use coombtray::{AttrSetTy, Field, Names, OutputTy, PrimitiveTy, Refusal, TyRef, TypeArena};
 
-/// A xorshift generator.
-struct Random(u64);
+use crate::random::Random;
 
 impl Random {
-    fn below(&mut self, bound: u32) -> u32 {
-        self.0 ^= self.0 << 13;
-        self.0 ^= self.0 >> 7;
-        self.0 ^= self.0 << 17;
-        (self.0 >> 33) as u32 % bound
-    }
-
     /// A node that is there, mostly.
     fn ty(&mut self, arena: &TypeArena) -> TyRef {
         let there = arena.len() as u32;
@@ -91,7 +83,7 @@ impl Random {
 
 /// What the refusals of a hundred calls on one arena were.
 fn refused(seed: u64) -> Vec<u32> {
-    let mut random = Random(seed << 32 | 0x9e37_79b9);
+    let mut random = Random::new(seed);
     let names = Names::new(["p", "q", "r", "s"]).unwrap();
     let (words, nodes) = (random.below(300) as usize, random.below(80) as usize);
     let mut t = TypeArena::with_capacity(names, words, nodes).unwrap();
