@@ -1,44 +1,45 @@
 -- A member list: the members that remain, then what becomes of the list; if nothing is left of it, its first member with no variable removable.
 use Prim.Native.Nat.{ℕ, _+_, _*_, _<_}
 use mathlib.Core.Path.{_≡_, refl, sym, ap, _∙_, subst}
-use mathlib.Core.Bool.{Bool, true, false}
+use mathlib.Core.Bool.{Bool, true, false, not, _||_}
 use mathlib.Core.List.{List, [], _∷_}
 use native.Mathlib.Omega.{arith}
 use lib.ListN.{length, getD, take}
+use lib.Dec.{eqb}
+use borrow.Author.Tests.{not-true, not-false}
 use Rattle.words.specs.Words.{child}
 use Rattle.types.specs.Out.{Out, ok, _>>=_}
-use Rattle.types.specs.Node.{Polarity, members, bound, node, tag, children, encode, below}
+use Rattle.types.specs.Node.{Polarity, members, bound, Node, node, tag, children, encode, below}
 use Rattle.types.specs.Arena.{Arena, at, Ext, here}
 use Rattle.types.specs.Fault.{children-in}
 use Rattle.types.specs.Places.{opposite}
 use Rattle.types.specs.Memory.{Holds}
 use Rattle.types.specs.Reply.{reply-of}
 use Rattle.types.specs.declared.Counters.{Counters}
-use Rattle.types.proofs.Growth.{ext-length}
-use Rattle.types.proofs.Sound.{at-formed, child-lower, children-below}
-use Rattle.types.proofs.Lists.{below-at}
+use Rattle.types.proofs.Growth.{ext-length, ext-at}
+use Rattle.types.proofs.Sound.{at-formed, child-lower}
 use Rattle.types.proofs.Faults.{children-encode}
 use Rattle.types.proofs.Memories.{unique}
-use Rattle.node_store.specs.Inner.Stored.{InRange, NodeAt}
+use Rattle.node_store.specs.Inner.Stored.{NodeAt}
 use Rattle.node_store.specs.Intern.{left}
 use Rattle.node_store.specs.declared.added.Interned.{Interned}
 use Rattle.node_store.specs.declared.added.Interned.the-variants as interned
 use Rattle.node_store.proofs.Interning.{done, done-ext}
 use Rattle.node_store.specs.Inner.Children.{ChildWords}
 use Rattle.node_store.proofs.Offspring.{as-many, child-is}
+use Rattle.node_reading.specs.Inner.{KindAt}
 use Rattle.recursion.specs.Jobs.{Job, each}
 use Rattle.recursion.proofs.Answers.{ok-same, bind-parts}
-use Rattle.recursion.proofs.Members.{index-of, member-below}
-use Rattle.simplification.specs.Pass.{no-variable, remaining, is-decided, member-list, list-kind, close, gather, apply}
-use Rattle.simplification.proofs.Members.{remaining-from}
+use Rattle.simplification.specs.Pass.{no-variable, is-decided, member-list, list-kind, close, gather, apply}
 use Rattle.simplification.proofs.Rebuilding.{has-member}
 use Rattle.simplification.proofs.Applying.{apply-kept, apply-at, step-list, gather-decided, gather-open}
 use Rattle.simplification.proofs.Running.{apply-sound}
 use Rattle.rebuilding.specs.Inner.Children.{setting, Agrees, Remains}
+use Rattle.rebuilding.specs.Inner.Rebuilt.{Rebuilding, Rebuilds}
 use Rattle.member_lists.specs.Inner.Closed.{Closing, ClosesTo, Closes}
 use Rattle.member_lists.specs.Inner.Closed as closing
 use Rattle.pass.specs.Inner.Caches.{Caches}
-use Rattle.pass.specs.Inner.Applied.{Leads, Ready, Applies, ListAt, ListReady, FirstMember, EachReady, AppliesEach}
+use Rattle.pass.specs.Inner.Applied.{Leads, Ready, Applies, AppliesFirst, ListAt, FirstMember, AppliesEach}
 use Rattle.rebuilding.specs.declared.children.Children.{Children}
 use Rattle.member_lists.specs.declared.Closed.{Closed}
 use Rattle.member_lists.specs.declared.Closed.the-variants as closed
@@ -46,7 +47,7 @@ use Rattle.recursion.specs.declared.Run.{Run}
 use Rattle.recursion.specs.declared.Run.the-variants as run
 use Rattle.pass.proofs.Leading.{leads-ext, caches-moved, stop-leads, EachDone, each-done, each-stop, reply-leads}
 use Rattle.pass.proofs.Turns.{agrees-kept}
-use Rattle.pass.proofs.Others.{ready-range, ready-inside}
+use Rattle.pass.proofs.Others.{ListReady, ready-inside, list-ready, other-refused, rebuilding, other-done}
 
 -- ---- the first member
 module _ {w s : List ℕ} {c : Counters} {n : ℕ} (L : ListAt w s c n) where
@@ -65,6 +66,30 @@ module _ {w s : List ℕ} {c : Counters} {n : ℕ} (L : ListAt w s c n) where
 
   pub member-read : {x : ℕ} → x ≡ n → {ws b : List ℕ} {r : ℕ} → NodeAt w s c x ws → ChildWords ws b → r ≡ child (getD b 0 0) → FirstMember w s c n r
   member-read e N B q = record { is = λ table a H. child-is B 0 q ∙ ap (λ (y : List ℕ). getD y 0 0) (read e N table a H) }
+
+-- ---- what it becomes
+module _ {w s : List ℕ} {c : Counters} {n : ℕ} {removable dropped kept : List ℕ} (P : Ready w s c n removable dropped kept) (L : ListAt w s c n) {x : ℕ} (F : FirstMember w s c n x) where
+  x-low : x < n
+  x-low =
+      let U = L .lent in
+      let low = within L (U .holds) in
+      subst (λ (y : ℕ). y < n) (sym (F .is (U .table) (U .view) (U .holds)))
+      (child-lower (U .table) (U .view) (U .holds .good) n low 0 (has-member (U .table) (U .view) (U .holds .good) n low (L .side) (L .tag-is)))
+
+  agrees-first : {table : ℕ} {a : Arena} {R : ℕ → Bool} → Holds table w s c a → Agrees removable R a n → Agrees removable R a x
+  agrees-first H = agrees-kept here (let l = within L H in omega (arith, l)) (omega (arith, x-low))
+
+  pub first-falls : {t : ℕ} → 4 * n + 1 ≡ t → 4 * x + 3 < t
+  first-falls p = omega (arith, p, x-low)
+
+  pub first-ready : Ready w s c x removable dropped kept
+  first-ready = record { table = P .table; view = P .view; variables = P .variables; holds = P .holds; inside = omega (arith, x-low, P .inside); agrees = agrees-first (P .holds) (P .agrees); caches = P .caches }
+
+  pub first-done : {w′ s′ dropped′ kept′ : List ℕ} {i : Interned} → Applies w s c x removable true dropped kept w′ s′ dropped′ kept′ i → AppliesFirst w s c n removable dropped kept w′ s′ dropped′ kept′ i
+  first-done {w′} {s′} {dropped′} {kept′} {i} Y = record {
+    is = λ table a R H A C.
+        subst (λ (y : ℕ). Leads table a R w′ s′ dropped′ kept′ i (apply (length w) (length s) a y no-variable a)) (F .is table a H) (Y .is table a R H (agrees-first H A) C);
+  }
 
 -- ---- what becomes of the list grew from what it was gathered in
 gather-ext : (lw ls : ℕ) (k : Polarity) (first : Job) (ms : List ℕ) (b : Arena) (m : ℕ) (d : Arena) → (first b ≡ ok (m, d) → Ext b d) → gather lw ls k first ms b ≡ ok (m, d) → Ext b d
@@ -97,35 +122,10 @@ closes-empty (closing.done e) q = let y : _≡_ {A = ℕ} 0 1 = cc in absurd (om
 closes-empty (closing.emptied e p q) z = record { is = e; words = p; starts = q }
 
 module _ {w s : List ℕ} {c : Counters} {n kind-number : ℕ} {removable dropped kept : List ℕ} (P : ListReady w s c n kind-number removable dropped kept) where
-  pub list-at : ListAt w s c n
-  list-at = let R = P .ready in record { lent = record { table = R .table; view = R .view; holds = R .holds }; inside = R .inside; side = P .side; tag-is = P .tag-is }
-
-  pub list-here : InRange w s c n
-  list-here = ready-range (P .ready)
-
   tag-in : (table : ℕ) (a : Arena) → Holds table w s c a → tag (at a n) ≡ members (P .side)
   tag-in table a H = ap (λ (b : Arena). tag (at b n)) (unique H (P .ready .holds)) ∙ P .tag-is
 
-  pub members-fall : {t : ℕ} → 4 * n + 1 ≡ t → 4 * n < t
-  members-fall e = omega (arith, e)
-
   module _ {keep : Bool} {r : Children} (L : Remains w s c n removable keep r) where
-    pub members-ready : EachReady w s c n (r .items) (r .count) removable dropped kept
-    members-ready =
-        let R = P .ready in
-        let X = L .is (R .table) (R .view) (R .variables) (R .holds) (R .agrees) in
-        let B = children-below (R .table) (R .view) (R .holds .good) n (ready-inside R (R .holds)) in
-        record {
-          ready = R;
-          long = X .long;
-          few = X .few;
-          low = ap (below n) (X .is)
-              ∙ member-below n (remaining (setting keep (R .variables)) (R .view) (children (at (R .view) n)))
-              (λ x h.
-              let j = index-of (remaining-from (setting keep (R .variables)) (R .view) (children (at (R .view) n)) x h) in
-              subst (λ (y : ℕ). y < n) (j .is) (below-at n (children (at (R .view) n)) B (j .index) (j .inside)));
-        }
-
     module _ {w′ s′ items′ dropped′ kept′ : List ℕ} {g : Run} (E : AppliesEach w s c n (r .items) (r .count) removable keep dropped kept w′ s′ items′ dropped′ kept′ g) where
       module _ {table : ℕ} {a : Arena} {R : ℕ → Bool} (H : Holds table w s c a) (A : Agrees removable R a n) (C : Caches (length w) (length s) R a dropped kept) where
         f : ℕ → Job
@@ -146,7 +146,7 @@ module _ {w s : List ℕ} {c : Counters} {n kind-number : ℕ} {removable droppe
         unfolding f
         ended q = each-done (E .is table a R H A C) q
 
-      pub list-refused : {u : ℕ} → g ≡ run.Refused u → Applies w s c n removable keep dropped kept w′ s′ dropped′ kept′ (interned.Refused u)
+      list-refused : {u : ℕ} → g ≡ run.Refused u → Applies w s c n removable keep dropped kept w′ s′ dropped′ kept′ (interned.Refused u)
       unfolding _>>=_ f
       list-refused p = record {
         is = λ table a R H A C.
@@ -157,13 +157,13 @@ module _ {w s : List ℕ} {c : Counters} {n kind-number : ℕ} {removable droppe
 
       module _ {d : Counters} (q : g ≡ run.Went d) where
         -- the list itself is still there
-        pub near-inside : n < d .nodes
+        near-inside : n < d .nodes
         near-inside =
             let R = P .ready in
             let D = ended (R .holds) (R .agrees) (R .caches) q in
             omega (arith, R .inside, R .holds .nodes, D .holds .nodes, ext-length (R .view) (D .arena) (D .ext))
 
-        pub closing-ready : Closing w′ s′ d kind-number items′ (r .count)
+        closing-ready : Closing w′ s′ d kind-number items′ (r .count)
         closing-ready =
             let R = P .ready in
             let D = ended (R .holds) (R .agrees) (R .caches) q in
@@ -200,7 +200,7 @@ module _ {w s : List ℕ} {c : Counters} {n kind-number : ℕ} {removable droppe
             first-low : getD (children (at a n)) 0 0 < n
             first-low = child-lower table a (H .good) n low 0 (has-member table a (H .good) n low (P .side) (tag-in table a H))
 
-          pub list-done : {i : Interned} → z ≡ closed.Done i → length w′ ≡ length w → length s′ ≡ length s → length w″ ≡ length w′ → length s″ ≡ length s′ → Applies w s c n removable keep dropped kept w″ s″ dropped′ kept′ i
+          list-done : {i : Interned} → z ≡ closed.Done i → length w′ ≡ length w → length s′ ≡ length s → length w″ ≡ length w′ → length s″ ≡ length s′ → Applies w s c n removable keep dropped kept w″ s″ dropped′ kept′ i
           unfolding become b first
           list-done {i} e lw ls lw′ ls′ = record {
             is = λ table a R H A C.
@@ -218,13 +218,7 @@ module _ {w s : List ℕ} {c : Counters} {n kind-number : ℕ} {removable droppe
                 (closes-done (closes-to H A C) e));
           }
 
-          module _ {x : ℕ} (F : FirstMember w s c n x) (e : z ≡ closed.Empty) where
-            x-low : x < n
-            x-low = let R = P .ready in subst (λ (y : ℕ). y < n) (sym (F .is (R .table) (R .view) (R .holds))) (first-low (R .holds) (R .agrees) (R .caches))
-
-            pub first-falls : {t : ℕ} → 4 * n + 1 ≡ t → 4 * x + 3 < t
-            first-falls p = omega (arith, p, x-low)
-
+          module _ (e : z ≡ closed.Empty) where
             -- memory is as the members left it
             module _ {table : ℕ} {a : Arena} {R : ℕ → Bool} (H : Holds table w s c a) (A : Agrees removable R a n) (C : Caches (length w) (length s) R a dropped kept) where
               left-so : Emptied w′ s′ w″ s″ (become H A C) (first H A C (b H A C))
@@ -238,36 +232,94 @@ module _ {w s : List ℕ} {c : Counters} {n kind-number : ℕ} {removable droppe
               unfolding b
               caches-so = caches-moved w′ s′ w″ s″ (ap length (left-so .words)) (ap length (left-so .starts)) (ended H A C q .caches)
 
-              agrees-so : Agrees removable R (b H A C) x
+              agrees-so : Agrees removable R (b H A C) n
               unfolding b
-              agrees-so = agrees-kept (ended H A C q .ext) (let l = low H A C in omega (arith, l)) (omega (arith, x-low)) A
+              agrees-so = agrees-kept (ended H A C q .ext) (let l = low H A C in omega (arith, l)) (omega arith) A
 
-            pub first-ready : Ready w″ s″ d x removable dropped′ kept′
-            unfolding b
-            first-ready =
+              same-node : at (b H A C) n ≡ at a n
+              unfolding b
+              same-node = ext-at a (ended H A C q .arena) (ended H A C q .ext) n (low H A C)
+
+            still-ready : Ready w″ s″ d n removable dropped′ kept′
+            still-ready =
                 let R = P .ready in
-                let D = ended (R .holds) (R .agrees) (R .caches) q in
+                record { table = R .table; view = b (R .holds) (R .agrees) (R .caches); variables = R .variables; holds = holds-so (R .holds) (R .agrees) (R .caches); inside = near-inside; agrees = agrees-so (R .holds) (R .agrees) (R .caches); caches = caches-so (R .holds) (R .agrees) (R .caches) }
+
+            still-list : ListAt w″ s″ d n
+            still-list =
+                let R = P .ready in
                 record {
-                  table = R .table;
-                  view = D .arena;
-                  variables = R .variables;
-                  holds = holds-so (R .holds) (R .agrees) (R .caches);
-                  inside = omega (arith, x-low, low (R .holds) (R .agrees) (R .caches), ext-length (R .view) (D .arena) (D .ext), D .holds .nodes);
-                  agrees = agrees-so (R .holds) (R .agrees) (R .caches);
-                  caches = caches-so (R .holds) (R .agrees) (R .caches);
+                  lent = record { table = R .table; view = b (R .holds) (R .agrees) (R .caches); holds = holds-so (R .holds) (R .agrees) (R .caches) };
+                  inside = near-inside;
+                  side = P .side;
+                  tag-is = ap tag (same-node (R .holds) (R .agrees) (R .caches)) ∙ P .tag-is;
                 }
 
-            pub list-emptied : {w‴ s‴ dropped″ kept″ : List ℕ} {i : Interned} → Applies w″ s″ d x removable true dropped′ kept′ w‴ s‴ dropped″ kept″ i → length w′ ≡ length w → length s′ ≡ length s → Applies w s c n removable keep dropped kept w‴ s‴ dropped″ kept″ i
+            list-emptied : {w‴ s‴ dropped″ kept″ : List ℕ} {i : Interned} → AppliesFirst w″ s″ d n removable dropped′ kept′ w‴ s‴ dropped″ kept″ i → length w′ ≡ length w → length s′ ≡ length s → Applies w s c n removable keep dropped kept w‴ s‴ dropped″ kept″ i
             unfolding b first
             list-emptied {w‴} {s‴} {dropped″} {kept″} {i} Y lw ls = record {
               is = λ table a R H A C.
                   let D = ended H A C q in
                   let pw : length w″ ≡ length w = ap length (left-so H A C .words) ∙ lw in
                   let ps : length s″ ≡ length s = ap length (left-so H A C .starts) ∙ ls in
-                  let u = F .is table a H in
-                  let o : apply (length w″) (length s″) (D .arena) x no-variable (D .arena) ≡ apply (length w) (length s) a n (setting keep R) a =
+                  let u = ap (λ (y : Node). getD (children y) 0 0) (same-node H A C) in
+                  let o : apply (length w″) (length s″) (D .arena) (getD (children (at (D .arena) n)) 0 0) no-variable (D .arena) ≡ apply (length w) (length s) a n (setting keep R) a =
                   (λ j. apply (pw j) (ps j) (D .arena) (u j) no-variable (D .arena))
                   ∙ ap (λ (k : (ℕ → Bool) → Job). k no-variable (D .arena)) (apply-kept (length w) (length s) a (D .arena) (D .ext) (getD (children (at a n)) 0 0) (omega (arith, first-low H A C, low H A C)))
                   ∙ sym (is-become H A C lw ls ∙ left-so H A C .is) in
                   subst (Leads table a R w‴ s‴ dropped″ kept″ i) o (leads-ext (D .ext) (Y .is table (D .arena) R (holds-so H A C) (agrees-so H A C) (caches-so H A C)));
             }
+
+-- ---- a node of either kind: that of a list has the members that remain, any other all children
+module _ {w s : List ℕ} {c : Counters} {n : ℕ} {removable dropped kept : List ℕ} (P : Ready w s c n removable dropped kept) {x k : ℕ} (e : x ≡ n) (K : KindAt w s c x k) (keep : Bool) {r : Children}
+    (L : Remains w s c n removable (not (eqb k 7 || eqb k 8) || keep) r) where
+  with-kind : {b : Bool} → (eqb k 7 || eqb k 8) ≡ b → Remains w s c n removable (not b || keep) r
+  with-kind p = subst (λ (b : Bool). Remains w s c n removable (not b || keep) r) p L
+
+  module _ {w′ s′ items′ dropped′ kept′ : List ℕ} {g : Run} (E : AppliesEach w s c n (r .items) (r .count) removable keep dropped kept w′ s′ items′ dropped′ kept′ g) where
+    pub node-refused : {u : ℕ} → g ≡ run.Refused u → Applies w s c n removable keep dropped kept w′ s′ dropped′ kept′ (interned.Refused u)
+    node-refused {u} p = go (eqb k 7 || eqb k 8) refl
+      where
+        go : (b : Bool) → (eqb k 7 || eqb k 8) ≡ b → Applies w s c n removable keep dropped kept w′ s′ dropped′ kept′ (interned.Refused u)
+        go true q = list-refused (list-ready P e K q) (with-kind q) E p
+        go false q = other-refused P (with-kind q) E e K q p
+
+    module _ {d : Counters} (q : g ≡ run.Went d) where
+      module _ (t : not (eqb k 7 || eqb k 8) ≡ true) where
+        no : (eqb k 7 || eqb k 8) ≡ false
+        no = not-true (eqb k 7 || eqb k 8) t
+
+        pub node-rebuilding : Rebuilding w′ s′ d n items′ (r .count)
+        node-rebuilding = rebuilding P (with-kind no) E q
+
+        pub node-rebuilt : {w″ s″ : List ℕ} {i : Interned} → Rebuilds w′ s′ d n items′ (r .count) w″ s″ i → length w′ ≡ length w → length s′ ≡ length s → length w″ ≡ length w′ → length s″ ≡ length s′
+            → Applies w s c n removable keep dropped kept w″ s″ dropped′ kept′ i
+        node-rebuilt B lw ls lw′ ls′ = other-done P (with-kind no) E q B e K no lw ls lw′ ls′
+
+      module _ (t : not (eqb k 7 || eqb k 8) ≡ false) where
+        yes : (eqb k 7 || eqb k 8) ≡ true
+        yes = not-false (eqb k 7 || eqb k 8) t
+
+        the-list : ListReady w s c n k removable dropped kept
+        the-list = list-ready P e K yes
+
+        pub node-closing : Closing w′ s′ d k items′ (r .count)
+        node-closing = closing-ready the-list (with-kind yes) E q
+
+        pub node-near : n < d .nodes
+        node-near = near-inside the-list (with-kind yes) E q
+
+        module _ {w″ s″ : List ℕ} {z : Closed} (Z : Closes w′ s′ d k items′ (r .count) w″ s″ z) where
+          pub node-closed : {i : Interned} → z ≡ closed.Done i → length w′ ≡ length w → length s′ ≡ length s → length w″ ≡ length w′ → length s″ ≡ length s′ → Applies w s c n removable keep dropped kept w″ s″ dropped′ kept′ i
+          node-closed = list-done the-list (with-kind yes) E q Z
+
+          module _ (u : z ≡ closed.Empty) where
+            pub node-ready : Ready w″ s″ d n removable dropped′ kept′
+            node-ready = still-ready the-list (with-kind yes) E q Z u
+
+            pub node-list : ListAt w″ s″ d n
+            node-list = still-list the-list (with-kind yes) E q Z u
+
+            pub node-emptied : {w‴ s‴ dropped″ kept″ : List ℕ} {i : Interned} → AppliesFirst w″ s″ d n removable dropped′ kept′ w‴ s‴ dropped″ kept″ i → length w′ ≡ length w → length s′ ≡ length s
+                → Applies w s c n removable keep dropped kept w‴ s‴ dropped″ kept″ i
+            node-emptied = list-emptied the-list (with-kind yes) E q Z u

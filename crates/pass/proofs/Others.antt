@@ -1,4 +1,4 @@
--- A node: which half goes on, and, where it is no member list, its children and then the node with what they became.
+-- A node: which of its children are simplified, and, where it is no member list, the node with what they became.
 use Prim.Native.Nat.{ℕ, _+_, _*_, _<_}
 use mathlib.Core.Path.{_≡_, sym, ap, _∙_, subst}
 use mathlib.Core.Bool.{Bool, true, false, _||_}
@@ -10,12 +10,13 @@ use lib.Seq.{length-take-le}
 use lib.Dec.{eqb}
 use Rattle.types.specs.Out.{Out, _>>=_}
 use Rattle.types.specs.Kind.{disc}
-use Rattle.types.specs.Node.{Tag, Node, node, tag, kind, children, below}
+use Rattle.types.specs.Node.{Polarity, Tag, Node, members, node, tag, kind, children, below}
 use Rattle.types.specs.Arena.{Arena, at, here}
 use Rattle.types.specs.Memory.{Holds}
 use Rattle.types.specs.declared.Counters.{Counters}
 use Rattle.types.proofs.Growth.{ext-length, ext-at}
 use Rattle.types.proofs.Sound.{children-below}
+use Rattle.types.proofs.Lists.{below-at}
 use Rattle.node_store.specs.Inner.Stored.{InRange}
 use Rattle.node_store.specs.Intern.{intern}
 use Rattle.node_store.specs.declared.added.Interned.{Interned}
@@ -23,18 +24,28 @@ use Rattle.node_store.specs.declared.added.Interned.the-variants as interned
 use Rattle.node_store.proofs.Interning.{done, done-ext}
 use Rattle.node_reading.specs.Inner.{KindAt}
 use Rattle.recursion.specs.Jobs.{Job, each, rebuild}
-use Rattle.simplification.specs.Pass.{list-kind, apply}
+use Rattle.recursion.proofs.Members.{index-of, member-below}
+use Rattle.simplification.specs.Pass.{remaining, list-kind, apply}
+use Rattle.simplification.proofs.Members.{remaining-from}
 use Rattle.simplification.proofs.Applying.{apply-at, step-other}
 use Rattle.simplification.proofs.Running.{apply-sound}
 use Rattle.member_lists.proofs.BoundKinds.{list-tag, other-tag}
-use Rattle.rebuilding.specs.Inner.Children.{setting, Agrees, AllChildren}
+use Rattle.rebuilding.specs.Inner.Children.{setting, Agrees, Remains}
+use Rattle.rebuilding.proofs.Copying.{all-listed}
 use Rattle.rebuilding.specs.Inner.Rebuilt.{Rebuilding, Rebuilds}
 use Rattle.pass.specs.Inner.Caches.{Caches}
-use Rattle.pass.specs.Inner.Applied.{Leads, Ready, Applies, ListReady, EachReady, AppliesEach}
+use Rattle.pass.specs.Inner.Applied.{Leads, Ready, Applies, EachReady, AppliesEach}
 use Rattle.rebuilding.specs.declared.children.Children.{Children}
 use Rattle.recursion.specs.declared.Run.{Run}
 use Rattle.recursion.specs.declared.Run.the-variants as run
 use Rattle.pass.proofs.Leading.{stop-leads, EachDone, each-done, each-stop, reply-leads}
+
+-- node n is a member list of the kind with this number
+pub record ListReady (w s : List ℕ) (c : Counters) (n kind-number : ℕ) (removable dropped kept : List ℕ) : Type 0 where
+  pub ready : Ready w s c n removable dropped kept
+  pub side : Polarity
+  pub tag-is : tag (at (ready .view) n) ≡ members side
+  pub kind-is : kind-number ≡ disc (kind (members side))
 
 module _ {w s : List ℕ} {c : Counters} {n : ℕ} {removable dropped kept : List ℕ} (P : Ready w s c n removable dropped kept) where
   pub ready-range : InRange w s c n
@@ -59,19 +70,29 @@ module _ {w s : List ℕ} {c : Counters} {n : ℕ} {removable dropped kept : Lis
     pub no-list : (eqb k 7 || eqb k 8) ≡ false → (table : ℕ) (a : Arena) → Holds table w s c a → list-kind (tag (at a n)) ≡ none
     no-list q table a H = other-tag (tag (at a n)) (ap (λ (y : ℕ). eqb y 7 || eqb y 8) (sym (kind-of table a H)) ∙ q)
 
-  pub list-falls : {t : ℕ} → 4 * n + 2 ≡ t → 4 * n + 1 < t
-  list-falls e = omega (arith, e)
+  pub first-below : {t : ℕ} → 4 * n + 2 ≡ t → 4 * n + 1 < t
+  first-below e = omega (arith, e)
 
   pub each-falls : {t : ℕ} → 4 * n + 2 ≡ t → 4 * n < t
   each-falls e = omega (arith, e)
 
-  -- ---- its children
-  module _ {r : Children} (L : AllChildren w s c n r) where
-    pub children-ready : EachReady w s c n (r .items) (r .count) removable dropped kept
-    children-ready =
-        let X = L .is (P .table) (P .view) (P .holds) in
-        record { ready = P; long = X .long; few = X .few; low = ap (below n) (X .is) ∙ children-below (P .table) (P .view) (P .holds .good) n (ready-inside (P .holds)) }
+  -- ---- its children, or those that remain
+  pub children-ready : {keep : Bool} {r : Children} → Remains w s c n removable keep r → EachReady w s c n (r .items) (r .count) removable dropped kept
+  children-ready {keep} L =
+      let X = L .is (P .table) (P .view) (P .variables) (P .holds) (P .agrees) in
+      let B = children-below (P .table) (P .view) (P .holds .good) n (ready-inside (P .holds)) in
+      record {
+        ready = P;
+        long = X .long;
+        few = X .few;
+        low = ap (below n) (X .is)
+            ∙ member-below n (remaining (setting keep (P .variables)) (P .view) (children (at (P .view) n)))
+            (λ x h.
+            let j = index-of (remaining-from (setting keep (P .variables)) (P .view) (children (at (P .view) n)) x h) in
+            subst (λ (y : ℕ). y < n) (j .is) (below-at n (children (at (P .view) n)) B (j .index) (j .inside)));
+      }
 
+  module _ {r : Children} (L : Remains w s c n removable true r) where
     module _ {keep : Bool} {w′ s′ items′ dropped′ kept′ : List ℕ} {g : Run} (E : AppliesEach w s c n (r .items) (r .count) removable keep dropped kept w′ s′ items′ dropped′ kept′ g) where
       -- the run of the children, in one arena
       module _ {table : ℕ} {a : Arena} {R : ℕ → Bool} (H : Holds table w s c a) (A : Agrees removable R a n) (C : Caches (length w) (length s) R a dropped kept) where
@@ -79,7 +100,7 @@ module _ {w s : List ℕ} {c : Counters} {n : ℕ} {removable dropped kept : Lis
         f x = apply (length w) (length s) a x (setting keep R)
 
         run-is : each f (take (r .count) (r .items)) a ≡ each f (children (at a n)) a
-        run-is = ap (λ (cs : List ℕ). each f cs a) (L .is table a H .is)
+        run-is = ap (λ (cs : List ℕ). each f cs a) (all-listed L H A .is)
 
         whole : list-kind (tag (at a n)) ≡ none → apply (length w) (length s) a n (setting keep R) a ≡ (each f (take (r .count) (r .items)) a >>= λ (q : List ℕ × Arena). intern (length w) (length s) (node (tag (at a n)) (q .0)) (q .1))
         unfolding rebuild f
@@ -107,12 +128,12 @@ module _ {w s : List ℕ} {c : Counters} {n : ℕ} {removable dropped kept : Lis
             let D = ended (P .holds) (P .agrees) (P .caches) q in
             let l = ready-inside (P .holds) in
             let x = ext-at (P .view) (D .arena) (D .ext) n l in
-            let y : length (take (r .count) (r .items)) ≡ r .count = let X = L .is (P .table) (P .view) (P .holds) in length-take-le (r .count) (r .items) (omega (arith, X .long, X .few)) in
+            let y : length (take (r .count) (r .items)) ≡ r .count = let X = all-listed L (P .holds) (P .agrees) in length-take-le (r .count) (r .items) (omega (arith, X .long, X .few)) in
             record {
               lent = record { table = P .table; view = D .arena; holds = D .holds };
               inside = omega (arith, l, ext-length (P .view) (D .arena) (D .ext), D .holds .nodes);
               long = D .long;
-              count-is = sym y ∙ ap length (L .is (P .table) (P .view) (P .holds) .is) ∙ ap (λ (z : Node). length (children z)) (sym x);
+              count-is = sym y ∙ ap length (all-listed L (P .holds) (P .agrees) .is) ∙ ap (λ (z : Node). length (children z)) (sym x);
               low = ap (λ (z : ℕ). below z (take (r .count) items′)) (D .holds .nodes) ∙ D .low;
             }
 

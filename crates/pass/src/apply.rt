@@ -8,7 +8,6 @@ use node_reading::nodes::kind_at;
 use node_store::added::Interned;
 use node_store::children::child_words;
 use node_store::stored::node_at;
-use rebuilding::children::all_children;
 use rebuilding::children::remaining;
 use rebuilding::node::rebuild;
 use recursion::Run;
@@ -19,7 +18,7 @@ use types::arc_ty::child;
 use types::arc_ty::wide;
 ghost use Rattle.node_filter.specs.Inner.Filter.{CoversLent, CoversAfter};
 ghost use Rattle.recursion.specs.Inner.Work.{CoversRun};
-ghost use Rattle.pass.specs.Inner.Applied.{Ready, Applies, ListAt, ListReady, FirstMember, EachReady, AppliesEach};
+ghost use Rattle.pass.specs.Inner.Applied.{Ready, Applies, AppliesFirst, ListAt, FirstMember, EachReady, AppliesEach};
 
 // The first member of the list n.
 fn first_member(words: &[u32], starts: &[u32], c: Counters, n: u32) -> u32
@@ -70,7 +69,8 @@ pub fn apply_simplification(
     Interned::Node(m, d)
 }
 
-// The same, worked out.
+// The same, worked out: of a member list the members that remain are simplified and gathered, of any other node all children.
+// If nothing is left of a list, it is what its first member becomes.
 fn apply_simplification_uncached(
     words: &mut [u32],
     starts: &mut [u32],
@@ -89,28 +89,15 @@ fn apply_simplification_uncached(
     ensures { λ r. ⌜ CoversAfter (now (words .exit)) (now (starts .exit)) r (now (filter .exit)) ⌝ }
 {
     let kind = kind_at(words, starts, c, wide(n));
-    if (kind == Head::UNION) | (kind == Head::INTERSECTION) {
-        return apply_list(
-            words,
-            starts,
-            c,
-            n,
-            kind,
-            removable,
-            keep,
-            dropped,
-            kept,
-            filter,
-        );
-    }
-    let mut list = all_children(words, starts, c, n);
-    let count = list.count;
+    let is_list = (kind == Head::UNION) | (kind == Head::INTERSECTION);
+    let mut items = [0u32; 65];
+    let count = remaining(words, starts, c, n, removable, !is_list | keep, &mut items);
     let r = apply_each(
         words,
         starts,
         c,
         n,
-        &mut list.items,
+        &mut items,
         count,
         removable,
         keep,
@@ -121,63 +108,46 @@ fn apply_simplification_uncached(
     let Run::Went(d) = r else {
         return Interned::Refused(r.refusal());
     };
-    rebuild(words, starts, d, n, &list.items, count, filter)
+    if !is_list {
+        return rebuild(words, starts, d, n, &items, count, filter);
+    }
+    let closed = close_list(words, starts, d, kind, &items, count, n, filter);
+    let Closed::Done(done) = closed else {
+        return apply_first(words, starts, d, n, removable, dropped, kept, filter);
+    };
+    done
 }
 
-// A member list: its members that remain are simplified and gathered; if nothing is left of them, the first is simplified with
-// no variable removable.
-fn apply_list(
+// What the first member of the list n becomes, with no variable removable.
+fn apply_first(
     words: &mut [u32],
     starts: &mut [u32],
     c: Counters,
     n: u32,
-    kind: u32,
     removable: &[u64; 64],
-    keep: bool,
     dropped: &mut [u32; 4096],
     kept: &mut [u32; 4096],
     filter: &mut [u64; 2048],
 ) -> Interned
-    requires { ⌜ ListReady (now words) (now starts) c n kind (now removable) (now dropped) (now kept) ⌝ }
+    requires { ⌜ Ready (now words) (now starts) c n (now removable) (now dropped) (now kept) ⌝ }
+    requires { ⌜ ListAt (now words) (now starts) c n ⌝ }
     requires { ⌜ CoversLent (now words) (now starts) c (now filter) ⌝ }
-    ensures { λ r. ⌜ Applies (now (words .entry)) (now (starts .entry)) c n (now (removable .entry)) keep (now (dropped .entry))
+    ensures { λ r. ⌜ AppliesFirst (now (words .entry)) (now (starts .entry)) c n (now (removable .entry)) (now (dropped .entry))
         (now (kept .entry)) (now (words .exit)) (now (starts .exit)) (now (dropped .exit)) (now (kept .exit)) r ⌝ }
     ensures { λ r. ⌜ CoversAfter (now (words .exit)) (now (starts .exit)) r (now (filter .exit)) ⌝ }
 {
     let first = first_member(words, starts, c, n);
-    let mut list = remaining(words, starts, c, n, removable, keep);
-    let count = list.count;
-    let r = apply_each(
+    apply_simplification(
         words,
         starts,
         c,
-        n,
-        &mut list.items,
-        count,
+        first,
         removable,
-        keep,
+        true,
         dropped,
         kept,
         filter,
-    );
-    let Run::Went(d) = r else {
-        return Interned::Refused(r.refusal());
-    };
-    let closed = close_list(words, starts, d, kind, &list.items, count, n, filter);
-    let Closed::Done(done) = closed else {
-        return apply_simplification(
-            words,
-            starts,
-            d,
-            first,
-            removable,
-            true,
-            dropped,
-            kept,
-            filter,
-        );
-    };
-    done
+    )
 }
 
 // What each of the first `count` items becomes, in its place; all are below n.

@@ -5,7 +5,7 @@ use mathlib.Core.Bool.{Bool, true, false}
 use mathlib.Core.List.{List, [], _∷_, _++_, map, append-nil}
 use native.Mathlib.Omega.{arith}
 use native.Mathlib.Numerals.{add-one}
-use lib.ListN.{length, getD, take, set, replicate, length-append, length-set, length-replicate, length-map, List·getD-map}
+use lib.ListN.{length, getD, take, set, replicate, length-append, length-set, length-map, List·getD-map}
 use lib.Seq.{take-suc, take-all, take-suc-set}
 use Rattle.words.specs.Words.{child}
 use Rattle.types.specs.Node.{Node, node, children, kind, data-of, child-words, formed}
@@ -21,7 +21,7 @@ use Rattle.node_store.specs.Inner.Stored.{InRange, NodeAt}
 use Rattle.node_store.specs.Inner.Children.{ChildWords}
 use Rattle.node_store.proofs.Offspring.{as-many}
 use Rattle.simplification.specs.Pass.{no-variable, is-removable, remaining}
-use Rattle.rebuilding.specs.Inner.Children.{setting, Agrees, Drops, Space, unless, Adds, AllChildren, Remains}
+use Rattle.rebuilding.specs.Inner.Children.{setting, Agrees, Lists, Drops, Space, unless, Adds, AllChildren, Remains}
 use Rattle.rebuilding.specs.declared.children.Children.{Children}
 use Rattle.rebuilding.proofs.Dropping.{none-removable}
 
@@ -86,15 +86,15 @@ pub record Copied (w s : List ℕ) (c : Counters) (n : ℕ) (removable : List �
   pub is : (table : ℕ) (a : Arena) (R : ℕ → Bool) → Holds table w s c a → Agrees removable R a n → take count items ≡ remaining (setting keep R) a (take i (children (at a n)))
 
 module _ {w s : List ℕ} {c : Counters} {n : ℕ} {removable : List ℕ} {keep : Bool} {b : List ℕ} where
-  pub copied-start : {j : ℕ} {ws : List ℕ} → InRange w s c n → j ≡ n → NodeAt w s c j ws → ChildWords ws b → Copied w s c n removable keep b (replicate 65 0) 0 0
+  pub copied-start : {j : ℕ} {ws items : List ℕ} → InRange w s c n → length items ≡ 65 → j ≡ n → NodeAt w s c j ws → ChildWords ws b → Copied w s c n removable keep b items 0 0
   unfolding remaining
-  copied-start I e N B = record {
+  copied-start I l e N B = record {
     range = I;
     read = λ table a H. B .is ∙ children-read I (rw e at N) H;
     few-words = omega (arith, as-many B, few-read I (rw e at N));
     turn = omega arith;
     few = omega arith;
-    long = length-replicate {A = ℕ} 65 0;
+    long = l;
     is = λ table a R H A. refl;
   }
 
@@ -144,9 +144,11 @@ module _ {w s : List ℕ} {c : Counters} {n : ℕ} {removable : List ℕ} {keep 
     }
 
 -- ---- where no variable is removable all remain
-pub all-remain : {w s : List ℕ} {c : Counters} {n : ℕ} {r : Children} → Remains w s c n (replicate 64 0) true r → AllChildren w s c n r
-all-remain {n = n} {r = r} M = record {
-  is = λ table a H.
-      let L = M .is table a no-variable H (record { is = λ u v l e. has-none 64 u }) in
-      record { is = L .is ∙ remaining-all a (children (at a n)); long = L .long; few = L .few };
-}
+module _ {w s : List ℕ} {c : Counters} {n : ℕ} {r : Children} where
+  pub all-listed : {removable : List ℕ} → Remains w s c n removable true r → {table : ℕ} {a : Arena} {R : ℕ → Bool} → Holds table w s c a → Agrees removable R a n → Lists (r .items) (r .count) (children (at a n))
+  all-listed M {table} {a} {R} H A =
+      let L = M .is table a R H A in
+      record { is = L .is ∙ remaining-all a (children (at a n)); long = L .long; few = L .few }
+
+  pub all-remain : Remains w s c n (replicate 64 0) true r → AllChildren w s c n r
+  all-remain M = record { is = λ table a H. all-listed M {R = no-variable} H (record { is = λ u v l e. has-none 64 u }) }

@@ -8,6 +8,8 @@ use types::Counters;
 use types::arc_ty::Head;
 use types::arc_ty::child;
 use types::arc_ty::wide;
+ghost use mathlib.Core.Path.{_≡_};
+ghost use lib.ListN.{length};
 ghost use Rattle.node_store.specs.Inner.Stored.{InRange};
 ghost use Rattle.rebuilding.specs.Inner.Children.{RemovesVar, Removes, Drops, Space, Adds, AllChildren, Remains};
 
@@ -89,10 +91,13 @@ pub fn all_children(words: &[u32], starts: &[u32], c: Counters, n: u32) -> Child
     ensures { λ r. ⌜ AllChildren (now (words .entry)) (now (starts .entry)) c n r ⌝ }
 {
     let none = [0u64; 64];
-    remaining(words, starts, c, n, &none, true)
+    let mut items = [0u32; 65];
+    let count = remaining(words, starts, c, n, &none, true, &mut items);
+    Children { items, count }
 }
 
-// Those that a pass doesn't drop, where node n is a member list; all of them if `keep` says that no variable is removable.
+// Lists those that a pass doesn't drop, where node n is a member list; all of them if `keep` says that no variable is removable.
+// How many they are.
 pub fn remaining(
     words: &[u32],
     starts: &[u32],
@@ -100,19 +105,21 @@ pub fn remaining(
     n: u32,
     removable: &[u64; 64],
     keep: bool,
-) -> Children
+    items: &mut [u32; 65],
+) -> usize
     requires { ⌜ InRange (now words) (now starts) c n ⌝ }
-    ensures { λ r. ⌜ Remains (now (words .entry)) (now (starts .entry)) c n (now (removable .entry)) keep r ⌝ }
+    requires { ⌜ length (now items) ≡ 65 ⌝ }
+    ensures { λ r. ⌜ Remains (now (words .entry)) (now (starts .entry)) c n (now (removable .entry)) keep
+        record { items = now (items .exit); count = r } ⌝ }
 {
     let body = child_words(node_at(words, starts, c, wide(n)));
-    let mut items = [0u32; 65];
     let mut count = 0;
     let mut i = 0;
     while i < body.len() {
         let m = child(body[i]);
         let dropped = is_dropped(words, starts, c, m, removable, keep);
-        count = add_unless(dropped, m, &mut items, count);
+        count = add_unless(dropped, m, items, count);
         i += 1;
     }
-    Children { items, count }
+    count
 }

@@ -5,8 +5,7 @@ use mathlib.Core.Bool.{Bool, true}
 use mathlib.Core.List.{List}
 use lib.ListN.{length, getD, take}
 use Rattle.types.specs.Out.{Out, ok, refuse}
-use Rattle.types.specs.Kind.{disc}
-use Rattle.types.specs.Node.{Polarity, members, tag, kind, children, below}
+use Rattle.types.specs.Node.{Polarity, members, tag, children, below}
 use Rattle.types.specs.Arena.{Arena, at, Ext}
 use Rattle.types.specs.Memory.{Holds}
 use Rattle.types.specs.declared.Counters.{Counters}
@@ -17,7 +16,7 @@ use Rattle.recursion.specs.Jobs.{each}
 use Rattle.recursion.specs.Inner.Work.{Stands}
 use Rattle.recursion.specs.declared.Run.{Run}
 use Rattle.recursion.specs.declared.Run.the-variants as run
-use Rattle.simplification.specs.Pass.{apply}
+use Rattle.simplification.specs.Pass.{no-variable, apply}
 use Rattle.rebuilding.specs.Inner.Children.{setting, Agrees}
 use Rattle.pass.specs.Inner.Caches.{Caches}
 
@@ -44,13 +43,6 @@ pub record Applies (w s : List ℕ) (c : Counters) (n : ℕ) (removable : List �
       → Caches (length w) (length s) R a dropped kept
       → Leads table a R w′ s′ dropped′ kept′ r (apply (length w) (length s) a n (setting keep R) a)
 
--- node n is a member list of the kind with this number
-pub record ListReady (w s : List ℕ) (c : Counters) (n kind-number : ℕ) (removable dropped kept : List ℕ) : Type 0 where
-  pub ready : Ready w s c n removable dropped kept
-  pub side : Polarity
-  pub tag-is : tag (at (ready .view) n) ≡ members side
-  pub kind-is : kind-number ≡ disc (kind (members side))
-
 -- memory holds an arena with a member list at node n
 pub record ListAt (w s : List ℕ) (c : Counters) (n : ℕ) : Type 0 where
   pub lent : Lent w s c
@@ -61,6 +53,12 @@ pub record ListAt (w s : List ℕ) (c : Counters) (n : ℕ) : Type 0 where
 -- r is its first member
 pub record FirstMember (w s : List ℕ) (c : Counters) (n r : ℕ) : Type 0 where
   pub is : (table : ℕ) (a : Arena) → Holds table w s c a → r ≡ getD (children (at a n)) 0 0
+
+-- the outcome is what the first member of the list n becomes where no variable is removable
+pub record AppliesFirst (w s : List ℕ) (c : Counters) (n : ℕ) (removable dropped kept w′ s′ dropped′ kept′ : List ℕ) (r : Interned) : Type 0 where
+  pub is : (table : ℕ) (a : Arena) (R : ℕ → Bool) → Holds table w s c a → Agrees removable R a n
+      → Caches (length w) (length s) R a dropped kept
+      → Leads table a R w′ s′ dropped′ kept′ r (apply (length w) (length s) a (getD (children (at a n)) 0 0) no-variable a)
 
 -- the first `count` items are below n
 pub record EachReady (w s : List ℕ) (c : Counters) (n : ℕ) (items : List ℕ) (count : ℕ) (removable dropped kept : List ℕ) : Type 0 where

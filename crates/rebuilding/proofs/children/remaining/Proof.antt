@@ -7,10 +7,10 @@ use Rattle.rebuilding.proofs.children.remaining.Statement.{statement}
 use Rattle.rebuilding.proofs.children.remaining.Tie as tie
 
 abbrev Inv-loop : tie.InvT-loop
-Inv-loop words starts c n removable keep body items₀ count₀ i₀ items count i = Copied words starts c n removable keep body items count i
+Inv-loop words starts c n removable keep items₀ body count₀ i₀ items count i = Copied words starts c n removable keep body items count i
 
 abbrev μ-loop : tie.MeasureT-loop
-μ-loop words starts c n removable keep body items₀ count₀ i₀ items count i = length body - i
+μ-loop words starts c n removable keep items₀ body count₀ i₀ items count i = length body - i
 
 wide-requires : tie.Need-wide-requires Inv-loop μ-loop
 wide-requires c κs = search needs
