@@ -6,10 +6,19 @@
 #ifndef LANG_TY_H
 #define LANG_TY_H
 
+#include <stdbool.h>
 #include <stddef.h>
 #include <stdint.h>
 
-/* The most words and starts of an arena, and bytes of the text of a type and of a sheet. */
+/* The version of this header and of the crate coombtray. */
+#define LANG_TY_VERSION_MAJOR 0
+#define LANG_TY_VERSION_MINOR 1
+#define LANG_TY_VERSION_PATCH 0
+
+/* The most names of a table and the bytes of the longest one, the most words and starts of an arena, and bytes of the text
+ * of a type and of a sheet. */
+#define LANG_TY_NAMES 256
+#define LANG_TY_TABLE 16640
 #define LANG_TY_WORDS 16384
 #define LANG_TY_STARTS 4096
 #define LANG_TY_TEXT 65536
@@ -23,6 +32,51 @@
 #define LANG_TY_LESS 0
 #define LANG_TY_EQUAL 1
 #define LANG_TY_GREATER 2
+
+/* The index of the unknown variable, which prints as `?`. */
+#define LANG_TY_UNKNOWN 4294967295u
+
+/* What a call answers; lang_ty_sentence says it in words. */
+enum lang_ty_answer {
+    LANG_TY_OK = 0,
+    LANG_TY_BAD_TABLE = 1,
+    LANG_TY_BAD_ARENA = 2,
+    LANG_TY_BAD_NODE = 3,
+    LANG_TY_BAD_CHILD_OR_NAME = 4,
+    LANG_TY_BAD_FIELD_ORDER = 5,
+    LANG_TY_BAD_ROOT = 6,
+    LANG_TY_NO_ROOM = 7,
+    LANG_TY_TOO_MANY_MEMBERS = 8,
+    LANG_TY_TOO_LONG = 9,
+    LANG_TY_BAD_SHEET = 10
+};
+
+/* The kinds of nodes, under the Rust's names; `never` is the bottom and `any` the top. */
+enum lang_ty_kind {
+    LANG_TY_KIND_BOTTOM = 0,
+    LANG_TY_KIND_TOP = 1,
+    LANG_TY_KIND_PRIMITIVE = 2,
+    LANG_TY_KIND_TYVAR = 3,
+    LANG_TY_KIND_LIST = 4,
+    LANG_TY_KIND_LAMBDA = 5,
+    LANG_TY_KIND_ATTR_SET = 6,
+    LANG_TY_KIND_UNION = 7,
+    LANG_TY_KIND_INTERSECTION = 8,
+    LANG_TY_KIND_NAMED = 9,
+    LANG_TY_KIND_NEG = 10
+};
+
+/* The codes of the primitive types. */
+enum lang_ty_primitive {
+    LANG_TY_PRIMITIVE_NULL = 0,
+    LANG_TY_PRIMITIVE_BOOL = 1,
+    LANG_TY_PRIMITIVE_INT = 2,
+    LANG_TY_PRIMITIVE_FLOAT = 3,
+    LANG_TY_PRIMITIVE_STRING = 4,
+    LANG_TY_PRIMITIVE_PATH = 5,
+    LANG_TY_PRIMITIVE_URI = 6,
+    LANG_TY_PRIMITIVE_NUMBER = 7
+};
 
 #ifdef __cplusplus
 extern "C" {
@@ -184,5 +238,89 @@ uint32_t lang_ty_sheet_line(
 #ifdef __cplusplus
 }
 #endif
+
+/* Helpers of this header, which the library neither has nor needs: a host may write and read words without them. What
+ * doesn't fit the bits of a word becomes LANG_TY_NO_WORD, and a node with that as head, child or field is refused by 3. */
+#define LANG_TY_NO_WORD 4294967295u
+
+/* The head of a node with so many words after it. */
+static inline uint32_t lang_ty_head(uint32_t kind, uint32_t count)
+{
+    return kind < 16 && count < 65536 ? kind << 28 | count : LANG_TY_NO_WORD;
+}
+
+/* The head of an attribute set. After the words of its fields a dynamic one has a child, the type of all other fields. */
+static inline uint32_t lang_ty_set_head(uint32_t fields, bool open, bool dynamic)
+{
+    uint32_t flags = (uint32_t)open << 27 | (uint32_t)dynamic << 26;
+    return fields < 65535 ? lang_ty_head(LANG_TY_KIND_ATTR_SET, fields + dynamic) | flags : LANG_TY_NO_WORD;
+}
+
+static inline uint32_t lang_ty_child(uint32_t number)
+{
+    return number < LANG_TY_STARTS ? number : LANG_TY_NO_WORD;
+}
+
+/* A field: the number of its name and that of its type. The word of a named type is that of a field that isn't optional. */
+static inline uint32_t lang_ty_field(uint32_t name, uint32_t child, bool optional)
+{
+    return name < LANG_TY_NAMES && child < LANG_TY_STARTS ? (uint32_t)optional << 31 | name << 23 | child : LANG_TY_NO_WORD;
+}
+
+static inline uint32_t lang_ty_kind_of(uint32_t head)
+{
+    return head >> 28;
+}
+
+/* How many words follow the head. */
+static inline uint32_t lang_ty_count_of(uint32_t head)
+{
+    return head & 65535;
+}
+
+static inline bool lang_ty_is_open(uint32_t head)
+{
+    return head >> 27 & 1;
+}
+
+static inline bool lang_ty_is_dynamic(uint32_t head)
+{
+    return head >> 26 & 1;
+}
+
+/* The number in the word of a child or of a field. */
+static inline uint32_t lang_ty_child_of(uint32_t word)
+{
+    return word & 4095;
+}
+
+static inline uint32_t lang_ty_name_of(uint32_t field)
+{
+    return field >> 23 & 255;
+}
+
+static inline bool lang_ty_is_optional(uint32_t field)
+{
+    return field >> 31;
+}
+
+/* An answer in words: who caused the refusal, and how. */
+static inline const char *lang_ty_sentence(uint32_t answer)
+{
+    static const char *const sentences[] = {
+        "not refused",
+        "refused 1, caused by the host that lends memory: the name table breaks a rule",
+        "refused 2, caused by the host that lends memory: the arena is over a limit or unsound",
+        "refused 3, caused by the author of the node: it is empty, or a kind, count, code, flag or zero field doesn't fit",
+        "refused 4, caused by the author of the node: a child isn't below the node count, or a name isn't in the table",
+        "refused 5, caused by the author of the node: its field names don't strictly rise",
+        "refused 6, caused by the author of the call: the root isn't below the node count",
+        "refused 7, caused by the size of the work: the arena has no room for a node that is needed",
+        "refused 8, caused by the size of the work: a member list would have a 65th different member",
+        "refused 9, caused by the size of the work: the text or the sheet exceeds the lent bytes, or 65,536 bytes",
+        "refused 10, caused by the sender of the sheet: it ends early, goes on, is too long or repeats a node",
+    };
+    return answer < sizeof sentences / sizeof *sentences ? sentences[answer] : "no answer of this library";
+}
 
 #endif

@@ -57,18 +57,19 @@ struct list {
 #define WORDS(...) {(const uint32_t[]){__VA_ARGS__}, COUNT(((const uint32_t[]){__VA_ARGS__}))}
 
 /* The words of a node. */
-#define HEAD(kind, count) ((uint32_t)(kind) << 28 | (uint32_t)(count))
-#define FIELD(name, child) ((uint32_t)(name) << 23 | (uint32_t)(child))
-#define NULL_TYPE HEAD(2, 1), 0
-#define BOOL HEAD(2, 1), 1
-#define INT HEAD(2, 1), 2
-#define VAR(index) HEAD(3, 1), index
-#define LAMBDA(param, body) HEAD(5, 2), param, body
-#define SET(count) HEAD(6, count)
-#define UNION(count) HEAD(7, count)
-#define INTERSECTION(count) HEAD(8, count)
-#define NAMED(name, child) HEAD(9, 1), FIELD(name, child)
-#define UNKNOWN 4294967295u
+#define FIELD(name, child) lang_ty_field(name, child, false)
+#define PRIMITIVE(code) lang_ty_head(LANG_TY_KIND_PRIMITIVE, 1), code
+#define NULL_TYPE PRIMITIVE(LANG_TY_PRIMITIVE_NULL)
+#define BOOL PRIMITIVE(LANG_TY_PRIMITIVE_BOOL)
+#define INT PRIMITIVE(LANG_TY_PRIMITIVE_INT)
+#define VAR(index) lang_ty_head(LANG_TY_KIND_TYVAR, 1), index
+#define LIST(child) lang_ty_head(LANG_TY_KIND_LIST, 1), lang_ty_child(child)
+#define LAMBDA(param, body) lang_ty_head(LANG_TY_KIND_LAMBDA, 2), lang_ty_child(param), lang_ty_child(body)
+#define SET(count) lang_ty_set_head(count, false, false)
+#define UNION(count) lang_ty_head(LANG_TY_KIND_UNION, count)
+#define INTERSECTION(count) lang_ty_head(LANG_TY_KIND_INTERSECTION, count)
+#define NAMED(name, child) lang_ty_head(LANG_TY_KIND_NAMED, 1), FIELD(name, child)
+#define NEG(child) lang_ty_head(LANG_TY_KIND_NEG, 1), lang_ty_child(child)
 
 /* What a host lends: a name table and an arena. No byte of a table is 0. */
 struct host {
@@ -87,7 +88,7 @@ struct host {
 
 static void put_nodes(struct host *h, struct list nodes)
 {
-    for (size_t at = 0; at < nodes.count; at += 1 + (nodes.at[at] & 0xffff))
+    for (size_t at = 0; at < nodes.count; at += 1 + lang_ty_count_of(nodes.at[at]))
         h->starts[h->nodes++] = (uint32_t)(h->used + at);
     memcpy(h->words + h->used, nodes.at, nodes.count * sizeof *nodes.at);
     h->used += nodes.count;
@@ -96,7 +97,7 @@ static void put_nodes(struct host *h, struct list nodes)
 static size_t node_count(struct list nodes)
 {
     size_t count = 0;
-    for (size_t at = 0; at < nodes.count; at += 1 + (nodes.at[at] & 0xffff))
+    for (size_t at = 0; at < nodes.count; at += 1 + lang_ty_count_of(nodes.at[at]))
         count++;
     return count;
 }
@@ -257,7 +258,7 @@ static void expect_target(const struct row *row, struct results *r)
 /* The results that the row says, over what stood there. */
 static void expect(const struct row *row, struct results *r)
 {
-    unsigned writes = row->answer == 0 ? row->call->writes : 0;
+    unsigned writes = row->answer == LANG_TY_OK ? row->call->writes : 0;
     if (writes & NUMBER)
         r->number = row->number;
     if (writes & PASSES)
@@ -276,9 +277,9 @@ static void expect(const struct row *row, struct results *r)
         r->length = row->sheet_len;
         memcpy(r->text, row->sheet, r->length);
     }
-    if (row->answer == 9 && row->call->writes & TEXT)
+    if (row->answer == LANG_TY_TOO_LONG && row->call->writes & TEXT)
         memset(r->text, 0, row->text_lent);
-    if (row->call->writes & TARGET && (row->answer == 0 || row->answer == 7))
+    if (row->call->writes & TARGET && (row->answer == LANG_TY_OK || row->answer == LANG_TY_NO_ROOM))
         expect_target(row, r);
 }
 
@@ -342,7 +343,8 @@ static void run(const struct row *row)
 #define WITH_A_REST WORDS(NULL_TYPE, INT, VAR(5), UNION(2), 2, 1)
 #define COPIED WORDS(VAR(5), INT, UNION(2), 0, 1)
 #define TWICE WORDS(VAR(0), VAR(0))
-#define EMPTY_SETS WORDS(SET(0), SET(0) | 1u << 27)
+#define BARE WORDS(lang_ty_head(LANG_TY_KIND_BOTTOM, 0), lang_ty_head(LANG_TY_KIND_TOP, 0), NEG(0), LIST(1))
+#define EMPTY_SETS WORDS(SET(0), lang_ty_set_head(0, true, false))
 
 /* The sheet of document 01, and what it holds. */
 static const uint8_t example[] = {0, 0, 0, 3, 0, 2, 0x30, 0, 0, 1, 0, 0, 0, 0, 0x20, 0,
@@ -353,53 +355,130 @@ static const uint8_t with_names[] = {0, 2, 0, 2, 0, 1, 1, 'p', 2, 'q', 'r', 0x30
                                      255, 255, 255, 0x60, 0, 0, 1, 0, 0x80, 0, 0};
 #define SHEET_OF(bytes) .sheet = bytes, .sheet_len = sizeof bytes
 
-static const struct row reading[] = {
-#define ROW(what, ...) {.line = __LINE__, .call = &what, __VA_ARGS__}
-    ROW(compare, .given = A_OR_INT, .root = 1, .other = 2, .number = LANG_TY_LESS),
-    ROW(compare, .given = A_OR_INT, .root = 2, .other = 2, .number = LANG_TY_EQUAL),
-    ROW(compare, .given = A_OR_INT, .root = 0, .other = 1, .number = LANG_TY_GREATER),
-    ROW(compare, .given = A_OR_INT, .root = 0, .other = 4, .answer = 6),
-    ROW(count_reachable, .given = A_OR_INT, .root = 2, .number = 3),
-    ROW(count_reachable, .table = P_AND_Q, .given = SHARED, .root = 6, .number = 6),
-    ROW(unwrap_named, .table = LINE_AND_TARGET, .given = TARGET_TYPE, .root = 2, .number = 0),
-    ROW(unwrap_named, .given = A_OR_INT, .root = 2, .number = 2),
-    ROW(has_type_vars, .given = A_OR_INT, .root = 2, .number = 1),
-    ROW(has_type_vars, .given = A_OR_INT, .root = 1, .number = 0),
-    ROW(needs_var_normalization, .given = A_OR_INT, .root = 3, .number = 1),
-    ROW(needs_var_normalization, .given = A_OR_INT, .root = 1, .number = 0),
-    ROW(contains_bare_tyvar, .given = A_OR_INT, .root = 3, .number = 1),
-    ROW(contains_bare_tyvar, .table = P_AND_Q, .given = SHARED, .root = 6, .number = 0),
-    ROW(has_shared_tyvar_across_lambda_params, .table = P_AND_Q, .given = SHARED, .root = 3, .number = 0),
-    ROW(has_shared_tyvar_across_lambda_params, .table = P_AND_Q, .given = SHARED, .root = 6, .number = 1),
-    ROW(free_type_vars, .given = H_TO_D_OR_H, .root = 3, .vars = WORDS(7, 3)),
-    ROW(free_type_vars, .given = A_OR_INT, .root = 1),
-    ROW(structurally_eq, .table = "\1p", .given = WORDS(INT, SET(1), FIELD(0, 0)), .root = 1,
-        .right_table = "\1a\1p", .right = WORDS(BOOL, INT, SET(1), FIELD(1, 1)), .other = 2, .number = 1),
-    ROW(structurally_eq, .table = "\1p", .given = WORDS(INT, SET(1), FIELD(0, 0)), .root = 1,
-        .right_table = "\1a\1p", .right = WORDS(BOOL, INT, SET(1), FIELD(0, 1)), .other = 2, .number = 0),
-    ROW(structurally_eq, .given = A_OR_INT, .root = 4, .right_table = "\2p", .right = TWICE, .other = 9, .answer = 1),
-    ROW(structurally_eq, .given = A_OR_INT, .root = 4, .right = TWICE, .other = 9, .answer = 2),
-    ROW(structurally_eq, .given = TWICE, .right_table = "\2p", .answer = 2),
-    ROW(structurally_eq, .given = A_OR_INT, .root = 2, .right = A_OR_INT, .other = 4, .answer = 6),
-    ROW(display, .given = A_OR_INT, .root = 3, .text_lent = 32, .text = "a -> a | int"),
-    ROW(display, .table = P_AND_Q, .given = SHARED, .root = 3, .text_lent = 28, .text = "{ p: a -> int, q: a -> int }"),
-    ROW(display, .table = P_AND_Q, .given = SHARED, .root = 3, .text_lent = 27, .answer = 9),
-    ROW(display, .table = LINE_AND_TARGET, .given = TARGET_TYPE, .root = 2, .text_lent = 6, .text = "Target"),
-    ROW(display, .given = EMPTY_SETS, .root = 0, .text_lent = 5, .text = "{  }"),
-    ROW(display, .given = EMPTY_SETS, .root = 1, .text_lent = 9, .text = "{ ... }"),
-    ROW(display, .given = WORDS(VAR(UNKNOWN)), .text_lent = 0, .answer = 9),
-    ROW(write_sheet, .given = EXAMPLE, .root = 2, .text_lent = 64, SHEET_OF(example)),
-    ROW(write_sheet, .given = EXAMPLE, .root = 2, .spare_words = 3, .spare_starts = 2, .text_lent = 34, SHEET_OF(example)),
-    ROW(write_sheet, .given = EXAMPLE, .root = 2, .text_lent = 33, .answer = 9),
-    ROW(write_sheet, .given = EXAMPLE, .root = 2, .text_lent = 0, .answer = 9),
-    ROW(write_sheet, .table = "\1p\2qr", .given = WORDS(VAR(UNKNOWN), SET(1), FIELD(1, 0)), .root = 1, .text_lent = 27, SHEET_OF(with_names)),
-    ROW(compact, .given = WITH_A_REST, .root = 3, .target_words = 12, .target_starts = 6, .number = 2, .target = COPIED),
-    ROW(compact, .given = WITH_A_REST, .root = 3, .target_words = 7, .target_starts = 3, .number = 2, .target = COPIED),
-    ROW(compact, .given = WITH_A_REST, .root = 3, .target_words = 6, .target_starts = 3, .answer = 7),
-    ROW(compact, .given = WITH_A_REST, .root = 3, .target_words = 7, .target_starts = 2, .answer = 7),
-    ROW(compact, .given = WITH_A_REST, .root = 4, .target_words = LANG_TY_WORDS + 1, .answer = 2),
-    ROW(compact, .given = WITH_A_REST, .root = 4, .target_starts = LANG_TY_STARTS + 1, .answer = 2),
-};
+/* The helpers of the header: words as document 01 lays them out, and numbers that don't fit. */
+static void check_words(void)
+{
+#define WORD(got, want) check(__LINE__, #got, got, want)
+    WORD(lang_ty_head(LANG_TY_KIND_NEG, 1), 0xa0000001);
+    WORD(lang_ty_head(15, 65535), 0xf000ffff);
+    WORD(lang_ty_set_head(64, true, true), 0x6c000041);
+    WORD(lang_ty_set_head(3, false, true), 0x64000004);
+    WORD(lang_ty_child(4095), 0xfff);
+    WORD(lang_ty_field(255, 4095, true), 0xff800fff);
+    WORD(lang_ty_field(1, 2, false), 0x00800002);
+    WORD(lang_ty_head(16, 0), LANG_TY_NO_WORD);
+    WORD(lang_ty_head(0, 65536), LANG_TY_NO_WORD);
+    WORD(lang_ty_set_head(65536, false, false), LANG_TY_NO_WORD);
+    WORD(lang_ty_set_head(4294967295, false, true), LANG_TY_NO_WORD);
+    WORD(lang_ty_child(4096), LANG_TY_NO_WORD);
+    WORD(lang_ty_field(256, 0, false), LANG_TY_NO_WORD);
+    WORD(lang_ty_field(0, 4096, false), LANG_TY_NO_WORD);
+    WORD(lang_ty_kind_of(0xa5a5a5a5), 10);
+    WORD(lang_ty_count_of(0xa5a5a5a5), 0xa5a5);
+    WORD(lang_ty_is_open(0xf7ffffff), 0);
+    WORD(lang_ty_is_open(0x08000000), 1);
+    WORD(lang_ty_is_dynamic(0xfbffffff), 0);
+    WORD(lang_ty_is_dynamic(0x04000000), 1);
+    WORD(lang_ty_child_of(0xa5a5a5a5), 0x5a5);
+    WORD(lang_ty_name_of(0xa5a5a5a5), 0x4b);
+    WORD(lang_ty_is_optional(0x7fffffff), 0);
+    WORD(lang_ty_is_optional(0x80000000), 1);
+}
+
+/* Each sentence begins with its own number; tests/host/header.rs holds the rest against the crate's. */
+static void check_sentences(void)
+{
+    for (uint32_t answer = LANG_TY_BAD_TABLE; answer <= LANG_TY_BAD_SHEET; answer++) {
+        char begins[32];
+        int length = snprintf(begins, sizeof begins, "refused %" PRIu32 ", caused by ", answer);
+        check(__LINE__, begins, strncmp(lang_ty_sentence(answer), begins, (size_t)length), 0);
+    }
+    check(__LINE__, "the sentence of 0", strcmp(lang_ty_sentence(LANG_TY_OK), "not refused"), 0);
+    check(__LINE__, "the sentence of 11", strcmp(lang_ty_sentence(11), "no answer of this library"), 0);
+}
+
+#define RUN(what, ...) run(&(const struct row){.line = __LINE__, .call = &what, __VA_ARGS__})
+
+static void check_questions(void)
+{
+    RUN(compare, .given = A_OR_INT, .root = 1, .other = 2, .number = LANG_TY_LESS);
+    RUN(compare, .given = A_OR_INT, .root = 2, .other = 2, .number = LANG_TY_EQUAL);
+    RUN(compare, .given = A_OR_INT, .root = 0, .other = 1, .number = LANG_TY_GREATER);
+    RUN(compare, .given = A_OR_INT, .root = 0, .other = 4, .answer = LANG_TY_BAD_ROOT);
+    RUN(count_reachable, .given = A_OR_INT, .root = 2, .number = 3);
+    RUN(count_reachable, .table = P_AND_Q, .given = SHARED, .root = 6, .number = 6);
+    RUN(unwrap_named, .table = LINE_AND_TARGET, .given = TARGET_TYPE, .root = 2, .number = 0);
+    RUN(unwrap_named, .given = A_OR_INT, .root = 2, .number = 2);
+    RUN(has_type_vars, .given = A_OR_INT, .root = 2, .number = 1);
+    RUN(has_type_vars, .given = A_OR_INT, .root = 1, .number = 0);
+    RUN(needs_var_normalization, .given = A_OR_INT, .root = 3, .number = 1);
+    RUN(needs_var_normalization, .given = A_OR_INT, .root = 1, .number = 0);
+    RUN(contains_bare_tyvar, .given = A_OR_INT, .root = 3, .number = 1);
+    RUN(contains_bare_tyvar, .table = P_AND_Q, .given = SHARED, .root = 6, .number = 0);
+    RUN(has_shared_tyvar_across_lambda_params, .table = P_AND_Q, .given = SHARED, .root = 3, .number = 0);
+    RUN(has_shared_tyvar_across_lambda_params, .table = P_AND_Q, .given = SHARED, .root = 6, .number = 1);
+    RUN(free_type_vars, .given = H_TO_D_OR_H, .root = 3, .vars = WORDS(7, 3));
+    RUN(free_type_vars, .given = A_OR_INT, .root = 1);
+}
+
+static void check_equality(void)
+{
+    RUN(structurally_eq, .table = "\1p", .given = WORDS(INT, SET(1), FIELD(0, 0)), .root = 1,
+        .right_table = "\1a\1p", .right = WORDS(BOOL, INT, SET(1), FIELD(1, 1)), .other = 2, .number = 1);
+    RUN(structurally_eq, .table = "\1p", .given = WORDS(INT, SET(1), FIELD(0, 0)), .root = 1,
+        .right_table = "\1a\1p", .right = WORDS(BOOL, INT, SET(1), FIELD(0, 1)), .other = 2, .number = 0);
+    RUN(structurally_eq, .given = A_OR_INT, .root = 4, .right_table = "\2p", .right = TWICE, .other = 9, .answer = LANG_TY_BAD_TABLE);
+    RUN(structurally_eq, .given = A_OR_INT, .root = 4, .right = TWICE, .other = 9, .answer = LANG_TY_BAD_ARENA);
+    RUN(structurally_eq, .given = TWICE, .right_table = "\2p", .answer = LANG_TY_BAD_ARENA);
+    RUN(structurally_eq, .given = A_OR_INT, .root = 2, .right = A_OR_INT, .other = 4, .answer = LANG_TY_BAD_ROOT);
+}
+
+static void check_texts(void)
+{
+    RUN(display, .given = A_OR_INT, .root = 3, .text_lent = 32, .text = "a -> a | int");
+    RUN(display, .table = P_AND_Q, .given = SHARED, .root = 3, .text_lent = 28, .text = "{ p: a -> int, q: a -> int }");
+    RUN(display, .table = P_AND_Q, .given = SHARED, .root = 3, .text_lent = 27, .answer = LANG_TY_TOO_LONG);
+    RUN(display, .table = LINE_AND_TARGET, .given = TARGET_TYPE, .root = 2, .text_lent = 6, .text = "Target");
+    RUN(display, .given = EMPTY_SETS, .root = 0, .text_lent = 5, .text = "{  }");
+    RUN(display, .given = EMPTY_SETS, .root = 1, .text_lent = 9, .text = "{ ... }");
+    RUN(display, .given = WORDS(VAR(LANG_TY_UNKNOWN)), .text_lent = 0, .answer = LANG_TY_TOO_LONG);
+    RUN(display, .given = BARE, .root = 2, .text_lent = 64, .text = "~never");
+    RUN(display, .given = BARE, .root = 3, .text_lent = 64, .text = "[any]");
+    RUN(display, .table = "\1p", .given = WORDS(VAR(0), lang_ty_set_head(1, true, true), lang_ty_field(0, 0, true), lang_ty_child(0)),
+        .root = 1, .text_lent = 64, .text = "{ p?: a, _: a, ... }");
+}
+
+static void check_primitives(void)
+{
+    static const char *const texts[] = {
+        [LANG_TY_PRIMITIVE_NULL] = "null", [LANG_TY_PRIMITIVE_BOOL] = "bool", [LANG_TY_PRIMITIVE_INT] = "int",
+        [LANG_TY_PRIMITIVE_FLOAT] = "float", [LANG_TY_PRIMITIVE_STRING] = "string", [LANG_TY_PRIMITIVE_PATH] = "path",
+        [LANG_TY_PRIMITIVE_URI] = "uri", [LANG_TY_PRIMITIVE_NUMBER] = "number",
+    };
+    for (uint32_t code = 0; code < COUNT(texts); code++)
+        RUN(display, .given = WORDS(PRIMITIVE(code)), .text_lent = 8, .text = texts[code]);
+    RUN(intern, .node = WORDS(PRIMITIVE(COUNT(texts))), .spare_words = 2, .spare_starts = 1, .answer = LANG_TY_BAD_NODE);
+}
+
+static void check_written_sheets(void)
+{
+    RUN(write_sheet, .given = EXAMPLE, .root = 2, .text_lent = 64, SHEET_OF(example));
+    RUN(write_sheet, .given = EXAMPLE, .root = 2, .spare_words = 3, .spare_starts = 2, .text_lent = 34, SHEET_OF(example));
+    RUN(write_sheet, .given = EXAMPLE, .root = 2, .text_lent = 33, .answer = LANG_TY_TOO_LONG);
+    RUN(write_sheet, .given = EXAMPLE, .root = 2, .text_lent = 0, .answer = LANG_TY_TOO_LONG);
+    RUN(write_sheet, .table = "\1p\2qr", .given = WORDS(VAR(LANG_TY_UNKNOWN), SET(1), FIELD(1, 0)), .root = 1,
+        .text_lent = 27, SHEET_OF(with_names));
+}
+
+static void check_copies(void)
+{
+    RUN(compact, .given = WITH_A_REST, .root = 3, .target_words = 12, .target_starts = 6, .number = 2, .target = COPIED);
+    RUN(compact, .given = WITH_A_REST, .root = 3, .target_words = 7, .target_starts = 3, .number = 2, .target = COPIED);
+    RUN(compact, .given = WITH_A_REST, .root = 3, .target_words = 6, .target_starts = 3, .answer = LANG_TY_NO_ROOM);
+    RUN(compact, .given = WITH_A_REST, .root = 3, .target_words = 7, .target_starts = 2, .answer = LANG_TY_NO_ROOM);
+    RUN(compact, .given = WITH_A_REST, .root = 4, .target_words = LANG_TY_WORDS + 1, .answer = LANG_TY_BAD_ARENA);
+    RUN(compact, .given = WITH_A_REST, .root = 4, .target_starts = LANG_TY_STARTS + 1, .answer = LANG_TY_BAD_ARENA);
+}
 
 /* Nodes 0 to 64 are int, [int], [[int]], .., node 65 the union of the first 64, node 66 that union and node 64, node 67 that
  * union and node 63. */
@@ -410,8 +489,8 @@ static uint32_t full[2 * LANG_TY_STARTS];
 static void fill(void)
 {
     for (uint32_t k = 0; k <= 64; k++) {
-        wide[2 * k] = k == 0 ? HEAD(2, 1) : HEAD(4, 1);
-        wide[2 * k + 1] = k == 0 ? 2 : k - 1;
+        const uint32_t *node = k == 0 ? (const uint32_t[]){INT} : (const uint32_t[]){LIST(k - 1)};
+        memcpy(wide + 2 * k, node, 2 * sizeof *node);
     }
     wide[130] = UNION(64);
     for (uint32_t k = 0; k < 64; k++)
@@ -425,54 +504,59 @@ static void fill(void)
 #define FULL {full, COUNT(full)}
 #define ONE_LESS {full, COUNT(full) - 2}
 
-static const struct row changing[] = {
-    ROW(intern, .given = A_OR_INT, .node = WORDS(UNION(2), 0, 1), .number = 2),
-    ROW(intern, .given = A_OR_INT, .node = WORDS(VAR(1)), .spare_words = 4, .spare_starts = 3, .number = 4, .added = WORDS(VAR(1))),
-    ROW(intern, .given = A_OR_INT, .node = {full, 0}, .spare_words = 2, .spare_starts = 1, .answer = 3),
-    ROW(intern, .given = A_OR_INT, .node = WORDS(HEAD(11, 0)), .spare_words = 2, .spare_starts = 1, .answer = 3),
-    ROW(intern, .given = A_OR_INT, .node = WORDS(UNION(2), 0), .spare_words = 3, .spare_starts = 1, .answer = 3),
-    ROW(intern, .given = A_OR_INT, .node = WORDS(LAMBDA(0, 4)), .spare_words = 3, .spare_starts = 1, .answer = 4),
-    ROW(intern, .given = A_OR_INT, .node = WORDS(NAMED(0, 0)), .spare_words = 2, .spare_starts = 1, .answer = 4),
-    ROW(intern, .table = P_AND_Q, .given = SHARED, .node = WORDS(SET(2), FIELD(1, 0), FIELD(0, 0)), .spare_words = 3, .spare_starts = 1, .answer = 5),
-    ROW(intern, .given = A_OR_INT, .node = WORDS(VAR(1)), .spare_words = 1, .spare_starts = 1, .answer = 7),
-    ROW(intern, .given = ONE_LESS, .node = WORDS(VAR(4095)), .spare_words = 2, .spare_starts = 1, .number = 4095, .added = WORDS(VAR(4095))),
-    ROW(intern, .given = FULL, .node = WORDS(VAR(4096)), .spare_words = 2, .answer = 7),
-    ROW(intern, .given = FULL, .node = WORDS(VAR(77)), .number = 77),
-    ROW(intern, .given = FULL, .node = WORDS(VAR(77)), .spare_starts = 1, .answer = 2),
-    ROW(simplify, .given = A_OR_INT, .root = 2, .number = 1, .passes = 2),
-    ROW(simplify, .given = A_OR_INT, .root = 3, .number = 3, .passes = 2),
-    ROW(simplify, .given = INT_NULL_A, .root = 3, .spare_words = 5, .spare_starts = 2, .number = 4, .passes = 2, .added = WORDS(UNION(2), 0, 1)),
-    ROW(simplify, .given = INT_NULL_A, .root = 3, .spare_words = 2, .spare_starts = 1, .answer = 7),
-    ROW(simplify, .given = INT_NULL_A, .root = 3, .spare_words = 3, .answer = 7),
-    ROW(simplify, .given = A_OR_B_AND_INT, .root = 4, .spare_words = 4, .spare_starts = 1, .number = 3, .passes = 3,
-        .added = WORDS(INTERSECTION(2), 0, 3)),
-    ROW(simplify, .given = WIDE, .root = 66, .spare_words = 66, .spare_starts = 1, .answer = 8),
-    ROW(simplify, .given = WIDE, .root = 67, .number = 65, .passes = 2),
-    ROW(simplify, .given = A_OR_INT, .root = 2, .spare_words = LANG_TY_WORDS, .answer = 2),
-    ROW(normalize_vars, .given = H_TO_D_OR_H, .root = 3, .spare_words = 10, .spare_starts = 4, .number = 7,
-        .added = WORDS(VAR(0), VAR(1), UNION(2), 5, 4, LAMBDA(4, 6))),
-    ROW(normalize_vars, .given = H_TO_D_OR_H, .root = 3, .spare_words = 9, .spare_starts = 4, .answer = 7),
-    ROW(normalize_vars, .given = H_TO_D_OR_H, .root = 0, .spare_words = 2, .spare_starts = 1, .number = 4, .added = WORDS(VAR(0))),
-    ROW(normalize_replacing_unknown, .given = H_TO_D_OR_H, .root = 3, .spare_words = 11, .spare_starts = 5, .number = 7,
-        .added = WORDS(VAR(0), VAR(1), UNION(2), 5, 4, LAMBDA(4, 6))),
-    ROW(normalize_replacing_unknown, .given = H_TO_D_OR_H, .root = 0, .spare_words = 2, .spare_starts = 1, .number = 4, .added = WORDS(VAR(UNKNOWN))),
-    ROW(normalize_replacing_unknown, .given = H_TO_D_OR_H, .root = 0, .spare_words = 2, .answer = 7),
-    ROW(normalize_set_ops, .given = UNSORTED, .root = 4, .spare_words = 6, .spare_starts = 2, .number = 5, .added = WORDS(UNION(3), 1, 2, 0)),
-    ROW(normalize_set_ops, .given = UNSORTED, .root = 4, .spare_words = 3, .spare_starts = 1, .answer = 7),
-    ROW(normalize_set_ops, .given = WIDE, .root = 66, .spare_words = 66, .spare_starts = 1, .answer = 8),
-    ROW(normalize_set_ops, .given = WIDE, .root = 67, .number = 65),
-};
+static void check_nodes(void)
+{
+    RUN(intern, .given = A_OR_INT, .node = WORDS(UNION(2), 0, 1), .number = 2);
+    RUN(intern, .given = A_OR_INT, .node = WORDS(VAR(1)), .spare_words = 4, .spare_starts = 3, .number = 4, .added = WORDS(VAR(1)));
+    RUN(intern, .given = A_OR_INT, .node = {full, 0}, .spare_words = 2, .spare_starts = 1, .answer = LANG_TY_BAD_NODE);
+    RUN(intern, .given = A_OR_INT, .node = WORDS(lang_ty_head(11, 0)), .spare_words = 2, .spare_starts = 1, .answer = LANG_TY_BAD_NODE);
+    RUN(intern, .given = A_OR_INT, .node = WORDS(UNION(2), 0), .spare_words = 3, .spare_starts = 1, .answer = LANG_TY_BAD_NODE);
+    RUN(intern, .given = A_OR_INT, .node = WORDS(LAMBDA(0, 4)), .spare_words = 3, .spare_starts = 1, .answer = LANG_TY_BAD_CHILD_OR_NAME);
+    RUN(intern, .given = A_OR_INT, .node = WORDS(NAMED(0, 0)), .spare_words = 2, .spare_starts = 1, .answer = LANG_TY_BAD_CHILD_OR_NAME);
+    RUN(intern, .table = P_AND_Q, .given = SHARED, .node = WORDS(SET(2), FIELD(1, 0), FIELD(0, 0)), .spare_words = 3, .spare_starts = 1,
+        .answer = LANG_TY_BAD_FIELD_ORDER);
+    RUN(intern, .given = A_OR_INT, .node = WORDS(VAR(1)), .spare_words = 1, .spare_starts = 1, .answer = LANG_TY_NO_ROOM);
+    RUN(intern, .given = ONE_LESS, .node = WORDS(VAR(4095)), .spare_words = 2, .spare_starts = 1, .number = 4095,
+        .added = WORDS(VAR(4095)));
+    RUN(intern, .given = FULL, .node = WORDS(VAR(4096)), .spare_words = 2, .answer = LANG_TY_NO_ROOM);
+    RUN(intern, .given = FULL, .node = WORDS(VAR(77)), .number = 77);
+    RUN(intern, .given = FULL, .node = WORDS(VAR(77)), .spare_starts = 1, .answer = LANG_TY_BAD_ARENA);
+    RUN(intern, .given = A_OR_INT, .node = WORDS(LIST(4096)), .spare_words = 2, .spare_starts = 1, .answer = LANG_TY_BAD_NODE);
+    RUN(intern, .given = A_OR_INT, .node = WORDS(NAMED(256, 0)), .spare_words = 2, .spare_starts = 1, .answer = LANG_TY_BAD_NODE);
+}
 
-/* What is refused alike by every call that is lent an arena, in the order of the numbers. Node 9 isn't there. */
-static const struct row faulty[] = {
-#define FAULT(...) {.line = __LINE__, .text_lent = 8, .target_words = 8, .target_starts = 4, .node = WORDS(VAR(9)), \
-                    .right = WORDS(VAR(0)), __VA_ARGS__}
-    FAULT(.table = "\2p", .given = TWICE, .root = 9, .answer = 1),
-    FAULT(.table = "\1q\1p", .given = A_OR_INT, .root = 2, .answer = 1),
-    FAULT(.given = TWICE, .root = 9, .answer = 2),
-    FAULT(.given = WORDS(NAMED(0, 0)), .root = 0, .answer = 2),
-    FAULT(.given = A_OR_INT, .root = 9, .answer = 6),
-};
+static void check_simplify(void)
+{
+    RUN(simplify, .given = A_OR_INT, .root = 2, .number = 1, .passes = 2);
+    RUN(simplify, .given = A_OR_INT, .root = 3, .number = 3, .passes = 2);
+    RUN(simplify, .given = INT_NULL_A, .root = 3, .spare_words = 5, .spare_starts = 2, .number = 4, .passes = 2,
+        .added = WORDS(UNION(2), 0, 1));
+    RUN(simplify, .given = INT_NULL_A, .root = 3, .spare_words = 2, .spare_starts = 1, .answer = LANG_TY_NO_ROOM);
+    RUN(simplify, .given = INT_NULL_A, .root = 3, .spare_words = 3, .answer = LANG_TY_NO_ROOM);
+    RUN(simplify, .given = A_OR_B_AND_INT, .root = 4, .spare_words = 4, .spare_starts = 1, .number = 3, .passes = 3,
+        .added = WORDS(INTERSECTION(2), 0, 3));
+    RUN(simplify, .given = WIDE, .root = 66, .spare_words = 66, .spare_starts = 1, .answer = LANG_TY_TOO_MANY_MEMBERS);
+    RUN(simplify, .given = WIDE, .root = 67, .number = 65, .passes = 2);
+    RUN(simplify, .given = A_OR_INT, .root = 2, .spare_words = LANG_TY_WORDS, .answer = LANG_TY_BAD_ARENA);
+}
+
+static void check_normalize(void)
+{
+    RUN(normalize_vars, .given = H_TO_D_OR_H, .root = 3, .spare_words = 10, .spare_starts = 4, .number = 7,
+        .added = WORDS(VAR(0), VAR(1), UNION(2), 5, 4, LAMBDA(4, 6)));
+    RUN(normalize_vars, .given = H_TO_D_OR_H, .root = 3, .spare_words = 9, .spare_starts = 4, .answer = LANG_TY_NO_ROOM);
+    RUN(normalize_vars, .given = H_TO_D_OR_H, .root = 0, .spare_words = 2, .spare_starts = 1, .number = 4, .added = WORDS(VAR(0)));
+    RUN(normalize_replacing_unknown, .given = H_TO_D_OR_H, .root = 3, .spare_words = 11, .spare_starts = 5, .number = 7,
+        .added = WORDS(VAR(0), VAR(1), UNION(2), 5, 4, LAMBDA(4, 6)));
+    RUN(normalize_replacing_unknown, .given = H_TO_D_OR_H, .root = 0, .spare_words = 2, .spare_starts = 1, .number = 4,
+        .added = WORDS(VAR(LANG_TY_UNKNOWN)));
+    RUN(normalize_replacing_unknown, .given = H_TO_D_OR_H, .root = 0, .spare_words = 2, .answer = LANG_TY_NO_ROOM);
+    RUN(normalize_set_ops, .given = UNSORTED, .root = 4, .spare_words = 6, .spare_starts = 2, .number = 5,
+        .added = WORDS(UNION(3), 1, 2, 0));
+    RUN(normalize_set_ops, .given = UNSORTED, .root = 4, .spare_words = 3, .spare_starts = 1, .answer = LANG_TY_NO_ROOM);
+    RUN(normalize_set_ops, .given = WIDE, .root = 66, .spare_words = 66, .spare_starts = 1, .answer = LANG_TY_TOO_MANY_MEMBERS);
+    RUN(normalize_set_ops, .given = WIDE, .root = 67, .number = 65);
+}
 
 static const struct call *const all[] = {
     &compare, &count_reachable, &unwrap_named, &has_type_vars, &needs_var_normalization, &contains_bare_tyvar,
@@ -480,22 +564,39 @@ static const struct call *const all[] = {
     &intern, &simplify, &normalize_vars, &normalize_replacing_unknown, &normalize_set_ops, &compact,
 };
 
+/* What is refused alike by every call that is lent an arena, in the order of the numbers. Node 9 isn't there. */
 static void run_faulty(const struct call *call)
 {
+#define FAULT(...) {.line = __LINE__, .text_lent = 8, .target_words = 8, .target_starts = 4, .node = WORDS(VAR(9)), \
+                    .right = WORDS(VAR(0)), __VA_ARGS__}
+    const struct row faulty[] = {
+        FAULT(.table = "\2p", .given = TWICE, .root = 9, .answer = LANG_TY_BAD_TABLE),
+        FAULT(.table = "\1q\1p", .given = A_OR_INT, .root = 2, .answer = LANG_TY_BAD_TABLE),
+        FAULT(.given = TWICE, .root = 9, .answer = LANG_TY_BAD_ARENA),
+        FAULT(.given = WORDS(NAMED(0, 0)), .root = 0, .answer = LANG_TY_BAD_ARENA),
+        FAULT(.given = A_OR_INT, .root = 9, .answer = LANG_TY_BAD_ROOT),
+    };
     for (size_t k = 0; k < COUNT(faulty); k++) {
         struct row row = faulty[k];
         row.call = call;
-        if (call != &intern || row.answer != 6) /* intern is given no root */
+        if (call != &intern || row.answer != LANG_TY_BAD_ROOT) /* intern is given no root */
             run(&row);
     }
 }
 
-/* Names end at a byte 0 here, which no name has. */
+/* So many names of so many bytes, which rise by their first two. */
+static void fill_table(char *table, int count, int size)
+{
+    memset(table, '~', (size_t)(count * (size + 1)));
+    for (int k = 0; k < count; k++)
+        memcpy(table + (size + 1) * k, (const char[]){(char)size, (char)(32 + k / 90), (char)(32 + k % 90)}, 3);
+}
+
 static void check_tables(void)
 {
-    static char most[257 * 3 + 1]; /* 257 names of two bytes, which rise */
-    for (int k = 0; k < 257; k++)
-        memcpy(most + 3 * k, (const char[]){2, (char)(32 + k / 90), (char)(32 + k % 90)}, 3);
+    static char most[257 * 3], longest[LANG_TY_TABLE];
+    fill_table(most, 257, 2);
+    fill_table(longest, 256, 64);
     const struct {
         int line;
         const char *table;
@@ -503,19 +604,21 @@ static void check_tables(void)
         uint32_t answer;
         size_t count;
     } tables[] = {
-        {__LINE__, "", 0, 0, 0},
-        {__LINE__, LINE_AND_TARGET, 12, 0, 2},
-        {__LINE__, most, 256 * 3, 0, 256},
-        {__LINE__, most, 257 * 3, 1, 0},
-        {__LINE__, "\1p\1p", 4, 1, 0},
-        {__LINE__, "\1\37", 2, 1, 0},
-        {__LINE__, "\0", 1, 1, 0},
+        {__LINE__, "", 0, LANG_TY_OK, 0},
+        {__LINE__, LINE_AND_TARGET, 12, LANG_TY_OK, 2},
+        {__LINE__, most, 256 * 3, LANG_TY_OK, LANG_TY_NAMES},
+        {__LINE__, most, 257 * 3, LANG_TY_BAD_TABLE, 0},
+        {__LINE__, longest, LANG_TY_TABLE, LANG_TY_OK, LANG_TY_NAMES},
+        {__LINE__, longest, LANG_TY_TABLE - 1, LANG_TY_BAD_TABLE, 0},
+        {__LINE__, "\1p\1p", 4, LANG_TY_BAD_TABLE, 0},
+        {__LINE__, "\1\37", 2, LANG_TY_BAD_TABLE, 0},
+        {__LINE__, "\0", 1, LANG_TY_BAD_TABLE, 0},
     };
     for (size_t k = 0; k < COUNT(tables); k++) {
         size_t count = 77;
         uint32_t answer = TOLD(lang_ty_check_names, (const uint8_t *)tables[k].table, tables[k].len, &count);
         check(tables[k].line, "answer", answer, tables[k].answer);
-        check(tables[k].line, "count", count, answer == 0 ? tables[k].count : 77);
+        check(tables[k].line, "count", count, answer == LANG_TY_OK ? tables[k].count : 77);
     }
 }
 
@@ -528,13 +631,13 @@ static void check_places(void)
         uint32_t number, answer;
         size_t start, length;
     } places[] = {
-        {__LINE__, LINE_AND_TARGET, 12, 0, 0, 1, 4},
-        {__LINE__, LINE_AND_TARGET, 12, 1, 0, 6, 6},
-        {__LINE__, LINE_AND_TARGET, 12, 2, 4, 77, 78},
-        {__LINE__, LINE_AND_TARGET, 12, UNKNOWN, 4, 77, 78},
-        {__LINE__, "", 0, 0, 4, 77, 78},
-        {__LINE__, "\1p\1p", 4, 0, 1, 77, 78},
-        {__LINE__, "\1p\1p", 4, 9, 1, 77, 78}, /* 1 before 4 */
+        {__LINE__, LINE_AND_TARGET, 12, 0, LANG_TY_OK, 1, 4},
+        {__LINE__, LINE_AND_TARGET, 12, 1, LANG_TY_OK, 6, 6},
+        {__LINE__, LINE_AND_TARGET, 12, 2, LANG_TY_BAD_CHILD_OR_NAME, 77, 78},
+        {__LINE__, LINE_AND_TARGET, 12, LANG_TY_UNKNOWN, LANG_TY_BAD_CHILD_OR_NAME, 77, 78},
+        {__LINE__, "", 0, 0, LANG_TY_BAD_CHILD_OR_NAME, 77, 78},
+        {__LINE__, "\1p\1p", 4, 0, LANG_TY_BAD_TABLE, 77, 78},
+        {__LINE__, "\1p\1p", 4, 9, LANG_TY_BAD_TABLE, 77, 78}, /* 1 before 4 */
     };
     for (size_t k = 0; k < COUNT(places); k++) {
         size_t start = 77, length = 78;
@@ -562,7 +665,7 @@ static void check_names(void)
         const uint8_t *left = (const uint8_t *)names[k].left, *right = (const uint8_t *)names[k].right;
         uint32_t order = 77;
         uint32_t answer = TOLD(lang_ty_compare_names, left, strlen(names[k].left), right, strlen(names[k].right), &order);
-        check(names[k].line, "answer", answer, 0);
+        check(names[k].line, "answer", answer, LANG_TY_OK);
         check(names[k].line, "order", order, names[k].order);
     }
 }
@@ -577,13 +680,13 @@ static void check_tyvar_names(void)
         {__LINE__, 25, "z"},
         {__LINE__, 26, "a1"},
         {__LINE__, 4294967294, "u165191049"},
-        {__LINE__, UNKNOWN, "?"},
+        {__LINE__, LANG_TY_UNKNOWN, "?"},
     };
     for (size_t k = 0; k < COUNT(names); k++) {
         uint8_t text[LANG_TY_TYVAR_NAME + 1];
         size_t length = 77;
         memset(text, 0xa5, sizeof text);
-        check(names[k].line, "answer", TOLD(lang_ty_tyvar_name, names[k].index, text, &length), 0);
+        check(names[k].line, "answer", TOLD(lang_ty_tyvar_name, names[k].index, text, &length), LANG_TY_OK);
         check(names[k].line, "length", length, strlen(names[k].text));
         check_bytes(names[k].line, "text", text, names[k].text, LANG_TY_TYVAR_NAME);
         check(names[k].line, "the byte past the text", text[LANG_TY_TYVAR_NAME], 0xa5);
@@ -607,7 +710,7 @@ static void check_sheets(void)
         size_t length = 77;
         memset(line, 0xa5, 2 * LANG_TY_LINE);
         memcpy(want, sheets[k].answer, strlen(sheets[k].answer));
-        check(sheets[k].line, "answer", TOLD(lang_ty_sheet_line, sheets[k].sheet, sheets[k].len, line, &length), 0);
+        check(sheets[k].line, "answer", TOLD(lang_ty_sheet_line, sheets[k].sheet, sheets[k].len, line, &length), LANG_TY_OK);
         check(sheets[k].line, "length", length, strlen(sheets[k].answer));
         check_bytes(sheets[k].line, "line", line, want, LANG_TY_LINE);
         free(line);
@@ -617,10 +720,17 @@ static void check_sheets(void)
 int main(void)
 {
     fill();
-    for (size_t k = 0; k < COUNT(reading); k++)
-        run(&reading[k]);
-    for (size_t k = 0; k < COUNT(changing); k++)
-        run(&changing[k]);
+    check_words();
+    check_sentences();
+    check_questions();
+    check_equality();
+    check_texts();
+    check_primitives();
+    check_written_sheets();
+    check_copies();
+    check_nodes();
+    check_simplify();
+    check_normalize();
     for (size_t k = 0; k < COUNT(all); k++)
         run_faulty(all[k]);
     check_tables();

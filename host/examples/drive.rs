@@ -48,12 +48,12 @@ fn main() -> Result<(), Refusal> {
     let shown = arena.normalize_vars(simplified.root)?;
     println!("shown:  {}", arena.display(shown)?);
 
-    let named = OutputTy::Named("Drive".into(), shown);
+    let named = OutputTy::Named("steering".into(), shown);
     match arena.intern(named.clone()) {
         Ok(_) => unreachable!("the name isn't in the table"),
         Err(refusal) => println!("a name that isn't there: {refusal}"),
     }
-    arena.add_names(["Drive"])?;
+    arena.add_names(["steering"])?;
     let named = arena.intern(named)?;
     println!("added:  {}", arena.display(named)?);
     Ok(())

@@ -9,7 +9,11 @@ use crate::{Names, OutputTy, Refusal, TyRef};
 /// The nodes of types, each stored once, under the names of one table.
 ///
 /// A refusal leaves the arena as it was. Each call judges the whole arena first, which takes longer the more nodes there
-/// are; so little is lent for few nodes, and more when a call needs it. Its recursion goes as deep as the type: see [`crate::with_stack`].
+/// are; so little is lent for few nodes, and more when a call needs it. Its recursion goes as deep as the type: see
+/// [`crate::on_large_stack`].
+///
+/// Two arenas are equal if they have the same names and the same nodes under the same numbers, whatever is lent and
+/// however far each may grow.
 #[derive(Clone, PartialEq, Eq)]
 pub struct TypeArena {
     memory: Memory,

@@ -13,12 +13,14 @@
 //! # Ok::<(), coombtray::Refusal>(())
 //! ```
 //!
-//! This crate isn't proved. It owns the memory, writes nodes as words and reads them back; every answer is the library's.
+//! This crate isn't proved. It owns the memory, writes nodes as words and reads them back, and has the questions of
+//! [`PrimitiveTy`]; every other answer is the library's.
 
 #![deny(unsafe_op_in_unsafe_fn)]
 
 mod arena;
 pub mod ffi;
+pub mod layout;
 mod memory;
 mod names;
 mod refusal;
@@ -30,6 +32,6 @@ mod words;
 pub use arena::{Simplified, TypeArena};
 pub use names::Names;
 pub use refusal::Refusal;
-pub use stack::{with_stack, STACK};
+pub use stack::{on_large_stack, STACK};
 pub use texts::{compare_names, sheet_line, tyvar_name};
 pub use types::{AttrSetTy, Field, OutputTy, PrimitiveTy, TyRef};

@@ -16,8 +16,8 @@ const FIRST: (usize, usize) = (256, 64);
 
 /// Lent words and starts with their counters, and the name table that goes with them. What is lent doubles when a call
 /// finds no room, up to the limit, so that each answer is that of an arena that is lent all of the limit at once. How much
-/// it is depends on the nodes and the limit alone (`fit`), and not on how they came to be: so equal arenas are lent alike.
-#[derive(Clone, PartialEq, Eq)]
+/// it is depends on the nodes and the limit alone (`fit`), and not on how they came to be.
+#[derive(Clone)]
 pub(crate) struct Memory {
     pub names: Names,
     limit: (usize, usize),
@@ -26,6 +26,15 @@ pub(crate) struct Memory {
     nodes: usize,
     used: usize,
 }
+
+/// Names and nodes alone count. Where each node starts follows from the words, and past them are zeros.
+impl PartialEq for Memory {
+    fn eq(&self, other: &Memory) -> bool {
+        self.names == other.names && self.words() == other.words()
+    }
+}
+
+impl Eq for Memory {}
 
 /// The calls that ask a number about a root.
 #[derive(Clone, Copy)]

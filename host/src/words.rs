@@ -1,32 +1,17 @@
-//! A node as the words that the library reads: a head (kind 4 bits, open 1, dynamic 1, zero 10, count of body words 16),
-//! then the body. A field word is optional 1, name 8, zero 11, child 12.
+//! A node as the words that the library reads.
 
 use crate::ffi;
+use crate::layout::*;
 use crate::{AttrSetTy, Field, Names, OutputTy, PrimitiveTy, Refusal, TyRef};
 
-const BOTTOM: u32 = 0;
-const TOP: u32 = 1;
-const PRIMITIVE: u32 = 2;
-const TYVAR: u32 = 3;
-const LIST: u32 = 4;
-const LAMBDA: u32 = 5;
-const ATTR_SET: u32 = 6;
-const UNION: u32 = 7;
-const INTERSECTION: u32 = 8;
-const NAMED: u32 = 9;
-const NEG: u32 = 10;
-
-/// The most fields or members of a node.
-const MOST: usize = 64;
-
 fn node(kind: u32, body: Vec<u32>) -> Vec<u32> {
-    let mut words = vec![kind << 28 | body.len() as u32];
+    let mut words = vec![head(kind, body.len())];
     words.extend(body);
     words
 }
 
 /// A number that twelve bits can't hold is below no node count.
-fn child(ty: TyRef) -> Result<u32, Refusal> {
+fn number(ty: TyRef) -> Result<u32, Refusal> {
     let number = ty.into_raw();
     if number as usize >= ffi::STARTS {
         return Err(Refusal::CHILD);
@@ -34,9 +19,10 @@ fn child(ty: TyRef) -> Result<u32, Refusal> {
     Ok(number)
 }
 
-fn field(names: &Names, name: &str, field: Field) -> Result<u32, Refusal> {
-    let number = names.number(name).ok_or(Refusal::CHILD)?;
-    Ok(u32::from(field.optional) << 31 | number << 23 | child(field.ty)?)
+fn named(names: &Names, name: &str, of: Field) -> Result<u32, Refusal> {
+    let rank = names.number(name).ok_or(Refusal::CHILD)?;
+    let optional = if of.optional { OPTIONAL } else { 0 };
+    Ok(field(rank, number(of.ty)?) | optional)
 }
 
 fn set(names: &Names, attrs: &AttrSetTy) -> Result<Vec<u32>, Refusal> {
@@ -46,13 +32,14 @@ fn set(names: &Names, attrs: &AttrSetTy) -> Result<Vec<u32>, Refusal> {
     }
     let mut body = Vec::new();
     for (name, &of) in &attrs.fields {
-        body.push(field(names, name, of)?);
+        body.push(named(names, name, of)?);
     }
     if let Some(ty) = attrs.dyn_ty {
-        body.push(child(ty)?);
+        body.push(number(ty)?);
     }
     let mut words = node(ATTR_SET, body);
-    words[0] |= u32::from(attrs.open) << 27 | u32::from(attrs.dyn_ty.is_some()) << 26;
+    words[0] |= if attrs.open { OPEN } else { 0 };
+    words[0] |= attrs.dyn_ty.map_or(0, |_| DYNAMIC);
     Ok(words)
 }
 
@@ -61,7 +48,7 @@ fn members(kind: u32, list: &[TyRef]) -> Result<Vec<u32>, Refusal> {
     if list.is_empty() || list.len() > MOST {
         return Err(Refusal::NODE);
     }
-    let body: Result<Vec<u32>, Refusal> = list.iter().map(|&ty| child(ty)).collect();
+    let body: Result<Vec<u32>, Refusal> = list.iter().map(|&ty| number(ty)).collect();
     Ok(node(kind, body?))
 }
 
@@ -72,27 +59,27 @@ pub(crate) fn encode(names: &Names, ty: &OutputTy) -> Result<Vec<u32>, Refusal> 
         OutputTy::Top => node(TOP, vec![]),
         OutputTy::Primitive(primitive) => node(PRIMITIVE, vec![*primitive as u32]),
         OutputTy::TyVar(index) => node(TYVAR, vec![*index]),
-        OutputTy::List(inner) => node(LIST, vec![child(*inner)?]),
-        OutputTy::Lambda { param, body } => node(LAMBDA, vec![child(*param)?, child(*body)?]),
+        OutputTy::List(inner) => node(LIST, vec![number(*inner)?]),
+        OutputTy::Lambda { param, body } => node(LAMBDA, vec![number(*param)?, number(*body)?]),
         OutputTy::AttrSet(attrs) => set(names, attrs)?,
         OutputTy::Union(list) => members(UNION, list)?,
         OutputTy::Intersection(list) => members(INTERSECTION, list)?,
         OutputTy::Named(name, inner) => {
-            node(NAMED, vec![field(names, name, Field::required(*inner))?])
+            node(NAMED, vec![named(names, name, Field::required(*inner))?])
         }
-        OutputTy::Neg(inner) => node(NEG, vec![child(*inner)?]),
+        OutputTy::Neg(inner) => node(NEG, vec![number(*inner)?]),
     })
 }
 
 fn number_in(word: u32) -> TyRef {
-    TyRef::from_raw(word & 0xfff)
+    TyRef::from_raw(child(word))
 }
 
 fn named_in(names: &Names, word: u32) -> (String, Field) {
-    let name = names.text(word >> 23 & 0xff).to_string();
+    let name = names.text(name(word)).to_string();
     let field = Field {
         ty: number_in(word),
-        optional: word >> 31 == 1,
+        optional: word & OPTIONAL > 0,
     };
     (name, field)
 }
@@ -101,7 +88,7 @@ fn named_in(names: &Names, word: u32) -> (String, Field) {
 pub(crate) fn decode(names: &Names, words: &[u32]) -> OutputTy {
     let (head, body) = (words[0], &words[1..]);
     let list = || body.iter().copied().map(number_in).collect();
-    match head >> 28 {
+    match kind(head) {
         BOTTOM => OutputTy::Bottom,
         TOP => OutputTy::Top,
         PRIMITIVE => OutputTy::Primitive(PrimitiveTy::ALL[body[0] as usize]),
@@ -112,12 +99,11 @@ pub(crate) fn decode(names: &Names, words: &[u32]) -> OutputTy {
             body: number_in(body[1]),
         },
         ATTR_SET => {
-            let dynamic = (head >> 26 & 1) as usize;
-            let (fields, rest) = body.split_at(body.len() - dynamic);
+            let (named, rest) = body.split_at(fields(head));
             OutputTy::AttrSet(AttrSetTy {
-                fields: fields.iter().map(|&word| named_in(names, word)).collect(),
+                fields: named.iter().map(|&word| named_in(names, word)).collect(),
                 dyn_ty: rest.first().copied().map(number_in),
-                open: head >> 27 & 1 == 1,
+                open: head & OPEN > 0,
             })
         }
         UNION => OutputTy::Union(list()),

@@ -1,6 +1,6 @@
 //! Nodes in short.
 
-use coombtray::{AttrSetTy, Names, OutputTy, PrimitiveTy, TyRef, TypeArena};
+use coombtray::{AttrSetTy, Names, OutputTy, PrimitiveTy, Refusal, TyRef, TypeArena};
 
 pub fn empty() -> TypeArena {
     TypeArena::new(Names::default())
@@ -45,6 +45,13 @@ pub fn intersection(arena: &mut TypeArena, members: &[TyRef]) -> TyRef {
 pub fn set(arena: &mut TypeArena, fields: &[(&str, TyRef)]) -> TyRef {
     let attrs = AttrSetTy::from_internal(fields.iter().copied(), false);
     put(arena, OutputTy::AttrSet(attrs))
+}
+
+/// Whether an arena's memory is what it was: the same nodes, as much lent, and sound, so that all past the nodes is zeros.
+pub fn untouched(arena: &TypeArena, before: &TypeArena) -> bool {
+    let judged = arena.count_reachable(TyRef::from_raw(0));
+    let sound = judged.map_err(Refusal::number) != Err(2);
+    sound && arena == before && arena.lent() == before.lent()
 }
 
 /// The sheet of an arena: name count, node count and root, then the table, then the node words.

@@ -3,7 +3,7 @@
 use std::panic;
 use std::process::{Command, Stdio};
 
-use coombtray::{with_stack, AttrSetTy, Names, OutputTy, PrimitiveTy, TyRef, TypeArena};
+use coombtray::{on_large_stack, AttrSetTy, Names, OutputTy, PrimitiveTy, TyRef, TypeArena};
 
 type Step = fn(TyRef) -> OutputTy;
 
@@ -46,7 +46,7 @@ const CHAINS: [Step; 6] = [
 #[test]
 fn every_operation() {
     for step in CHAINS {
-        with_stack(|| {
+        on_large_stack(|| {
             let (mut t, root) = chain(step);
             let text = t.display(root).unwrap();
             assert!(text.len() >= NODES - 1);
@@ -72,8 +72,8 @@ fn every_operation() {
 #[test]
 fn results_and_panics_are_handed_on() {
     let told = String::from("borrowed");
-    assert_eq!(with_stack(|| told.len()), 8);
-    let panic = panic::catch_unwind(|| with_stack(|| panic::resume_unwind(Box::new(7))));
+    assert_eq!(on_large_stack(|| told.len()), 8);
+    let panic = panic::catch_unwind(|| on_large_stack(|| panic::resume_unwind(Box::new(7))));
     assert_eq!(panic.unwrap_err().downcast_ref(), Some(&7));
 }
 

@@ -297,7 +297,7 @@ impl Pair {
         };
         assert_eq!(ours, raw);
         self.alike();
-        assert!(raw.0 == 0 || self.grown == before.0 && self.whole == before.1);
+        assert!(raw.0 == 0 || untouched(&self.grown, &before.0) && self.whole == before.1);
         raw.0
     }
 
@@ -402,7 +402,7 @@ fn flattened(mut pair: Pair, root: u32, answer: u32) -> (usize, usize) {
     assert_eq!(raw.0, answer);
     assert_eq!(said(flat, |ty| [ty.into_raw(), 0]), raw);
     pair.alike();
-    assert!(answer == 0 || pair.grown == before);
+    assert!(answer == 0 || untouched(&pair.grown, &before));
     pair.grown.lent()
 }
 
@@ -460,12 +460,12 @@ fn no_room_at_the_limit() {
         let before = t.clone();
         let reply = t.normalize_vars(root);
         assert_eq!(reply.map_or_else(Refusal::number, |_| 0), refused);
-        assert!(refused == 0 || t == before && t.lent() == before.lent());
+        assert!(refused == 0 || untouched(&t, &before));
     }
     let seven = |t: &mut TypeArena, node| {
         let before = t.clone();
         assert_eq!(t.intern(node).map_err(Refusal::number), Err(7));
-        assert!(*t == before && t.lent() == FULL);
+        assert!(untouched(t, &before) && t.lent() == FULL);
     };
     let mut starts = TypeArena::from_nodes(names(), (0..4_096).map(OutputTy::TyVar)).unwrap();
     seven(&mut starts, OutputTy::Top);
@@ -508,9 +508,33 @@ fn the_target_of_compact_is_lent_what_it_needs() {
             .map_err(Refusal::number),
         Err(7)
     );
-    assert!(narrow == TypeArena::with_capacity(names(), 399, 200).unwrap());
-    assert_eq!(narrow.lent(), (256, 64));
+    assert!(narrow.is_empty() && narrow.lent() == (256, 64));
     let mut exact = TypeArena::with_capacity(names(), 400, 200).unwrap();
     assert_eq!(large.compact_into(large_root, &mut exact), Ok(large_root));
-    assert!(exact.words() == large.words());
+    assert!(exact == large);
+}
+
+#[test]
+fn equal_whatever_is_lent_and_allowed() {
+    let limits = [FULL, (0, 0), (10, 3), (4_000, 64)];
+    let empty = limits.map(|(words, nodes)| TypeArena::with_capacity(names(), words, nodes));
+    assert!(empty.windows(2).all(|two| two[0] == two[1]));
+    let (large, small) = (chain(FULL, 60).0, chain((120, 60), 60).0);
+    assert!(large == small && large.lent() != small.lent());
+    assert!(large == large.clone());
+}
+
+#[test]
+fn unequal_by_names_or_nodes() {
+    let of = |names: &[&str], nodes: &[OutputTy]| {
+        TypeArena::from_nodes(Names::new(names).unwrap(), nodes.to_vec()).unwrap()
+    };
+    let named = |name: &str| OutputTy::Named(name.into(), TyRef::from_raw(0));
+    let one = of(&["p"], &[OutputTy::Top, named("p")]);
+    let renamed = of(&["q"], &[OutputTy::Top, named("q")]);
+    assert!(one.words() == renamed.words() && one != renamed);
+    assert!(one != of(&["p", "q"], &[OutputTy::Top, named("p")]));
+    assert!(one != of(&["p"], &[OutputTy::Bottom, named("p")]));
+    assert!(one != of(&["p"], &[OutputTy::Top]));
+    assert!(one != of(&["p"], &[OutputTy::Top, named("p"), OutputTy::Bottom]));
 }

@@ -1,11 +1,14 @@
 //! The declarations in `lang_ty.h` and `src/ffi.rs` against the functions that are proved: the same names, and the same
-//! parameters in the same order. Nothing else in the build compares them.
+//! parameters in the same order. Nothing else in the build compares them. What the header and the crate both say in words of
+//! their own is held against each other too.
 
 use std::collections::BTreeMap;
 use std::fs;
 use std::path::Path;
 
 use coombtray::ffi;
+
+use crate::refusals::each;
 
 /// For each function its parameters, each as a name and a type in C's words, without spaces.
 type Declared = BTreeMap<String, Vec<(String, String)>>;
@@ -159,4 +162,22 @@ fn the_same_constants() {
     for (name, value) in known {
         assert_eq!(defined(&header, name), value.to_string(), "{name}");
     }
+}
+
+#[test]
+fn the_same_version() {
+    let header = read("lang_ty.h");
+    let version = ["MAJOR", "MINOR", "PATCH"].map(|part| format!("LANG_TY_VERSION_{part}"));
+    let version = version.map(|name| defined(&header, &name).to_string());
+    assert_eq!(version.join("."), env!("CARGO_PKG_VERSION"));
+}
+
+#[test]
+fn the_same_sentences() {
+    let header = read("lang_ty.h");
+    let quoted = header
+        .split('"')
+        .filter(|text| text.starts_with("refused "));
+    let sentences: Vec<&str> = quoted.collect();
+    assert_eq!(sentences, each().map(|refusal| refusal.to_string()));
 }

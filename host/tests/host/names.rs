@@ -83,7 +83,7 @@ fn more_names_that_are_refused() {
     assert_eq!(t.add_names([""]).map_err(Refusal::number), Err(1));
     let many = (0..256).map(|number| number.to_string());
     assert_eq!(t.add_names(many).map_err(Refusal::number), Err(1));
-    assert!(t == before);
+    assert!(untouched(&t, &before));
     // An arena without a word to spare has room for its nodes under any names.
     let full = TypeArena::with_capacity(t.names().clone(), 4, 2);
     let mut full = full.unwrap();

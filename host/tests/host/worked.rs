@@ -295,5 +295,5 @@ fn the_last_node() {
     let refused = t.intern(OutputTy::TyVar(4_096));
     assert_eq!(refused.map_err(Refusal::number), Err(7));
     assert_eq!(t.intern(OutputTy::TyVar(9)).unwrap().into_raw(), 9);
-    assert!(t == full);
+    assert!(untouched(&t, &full));
 }
