@@ -10,6 +10,8 @@ pub mod memory;
 pub mod node;
 pub mod order;
 pub mod places;
+#[path = "../../client/src/primitives.rs"]
+mod primitives;
 pub mod rust;
 pub mod second;
 pub mod set_ops;

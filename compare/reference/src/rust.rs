@@ -4,22 +4,12 @@ use std::cmp::Ordering;
 use std::fmt::Write;
 use std::sync::Arc;
 
-use lang_ty::{AttrSetTy, OutputTy, OwnedTy, PrimitiveTy, TyRef, TypeArena};
+use lang_ty::{AttrSetTy, OutputTy, OwnedTy, TyRef, TypeArena};
 use smol_str::SmolStr;
 
 use crate::node::{Field, Node};
+use crate::primitives::PRIMITIVES;
 use crate::{Reply, TEXT};
-
-const PRIMITIVES: [PrimitiveTy; 8] = [
-    PrimitiveTy::Null,
-    PrimitiveTy::Bool,
-    PrimitiveTy::Int,
-    PrimitiveTy::Float,
-    PrimitiveTy::String,
-    PrimitiveTy::Path,
-    PrimitiveTy::Uri,
-    PrimitiveTy::Number,
-];
 
 #[derive(Clone)]
 pub struct Rust {

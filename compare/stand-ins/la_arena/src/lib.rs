@@ -60,7 +60,9 @@ impl<T> Hash for Idx<T> {
 
 impl<T> fmt::Debug for Idx<T> {
     fn fmt(&self, f: &mut fmt::Formatter<'_>) -> fmt::Result {
-        write!(f, "Idx({})", self.raw)
+        let path = std::any::type_name::<T>();
+        let name = path.rsplit(':').next().unwrap_or(path);
+        write!(f, "Idx::<{name}>({})", self.raw)
     }
 }
 

@@ -4,7 +4,7 @@ use std::fmt;
 use std::ops::Deref;
 use std::sync::Arc;
 
-#[derive(Debug, Clone, PartialEq, Eq, PartialOrd, Ord, Hash)]
+#[derive(Clone, PartialEq, Eq, PartialOrd, Ord, Hash)]
 pub struct SmolStr(Arc<str>);
 
 impl SmolStr {
@@ -24,6 +24,13 @@ impl Deref for SmolStr {
 
     fn deref(&self) -> &str {
         &self.0
+    }
+}
+
+/// As a text, in quotes.
+impl fmt::Debug for SmolStr {
+    fn fmt(&self, f: &mut fmt::Formatter<'_>) -> fmt::Result {
+        fmt::Debug::fmt(&**self, f)
     }
 }
 
