@@ -19,7 +19,7 @@ pub fn with_stack<R>(f: impl FnOnce() -> R) -> R {
 /// `with_stack` has more. A look would cost more than most calls where `stacker` is the stand-in.
 const SHALLOW: u32 = 64;
 
-/// What the library's deepest call takes, a little rounded up: docs/HOST.md has 4,798 KiB for 4,087 levels.
+/// More than the library's deepest call takes: docs/HOST.md has 3,519 KiB for 4,087 levels.
 const AT_LEAST: usize = 128 * 1024;
 const PER_LEVEL: usize = 1280;
 
