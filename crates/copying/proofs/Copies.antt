@@ -1,9 +1,9 @@
 -- Copies: a node of one arena and a node of another with the same tag, whose children are copies in turn. Whatever is read off the tags has the same value at both,
 -- each node with a place below the one has a copy with a place of the same sign below the other, and a node has one copy.
-use Prim.Native.Nat.{ℕ, suc, _<_}
+use Prim.Native.Nat.{ℕ, _<_}
 use mathlib.Core.Path.{_≡_, refl, sym, ap, _∙_, subst}
 use mathlib.Core.Bool.{true}
-use mathlib.Core.List.{List, [], _∷_, map}
+use mathlib.Core.List.{List}
 use mathlib.Core.Option.{some}
 use native.Mathlib.Omega.{arith}
 use lib.ListN.{length, getD}
@@ -12,6 +12,7 @@ use Rattle.types.specs.Node.{Polarity, Tag, Node, node, tag, children}
 use Rattle.types.specs.Arena.{Arena, at, fold, find, sound, Ext}
 use Rattle.types.specs.Places.{child-sign, Place, self, down}
 use Rattle.types.proofs.Growth.{ext-length, ext-at}
+use Rattle.types.proofs.Lists.{map-each}
 use Rattle.types.proofs.Sound.{child-lower, fold-at, at-find}
 use Rattle.recursion.proofs.Interning.{node-is, At}
 use Rattle.copying.specs.Theorems.{CopyOf, copied, CopyAt}
@@ -59,12 +60,6 @@ module _ (table : ℕ) where
 
 -- ---- what is read off the tags
 module _ {ℓ} {Y : Type ℓ} where
-  map-each : (F G : ℕ → Y) (ms cs : List ℕ) → length ms ≡ length cs → ((i : ℕ) → i < length cs → F (getD ms i 0) ≡ G (getD cs i 0)) → map F ms ≡ map G cs
-  map-each F G [] [] q h = refl
-  map-each F G [] (c ∷ cs) q h = absurd (omega arith)
-  map-each F G (m ∷ ms) [] q h = absurd (omega arith)
-  map-each F G (m ∷ ms) (c ∷ cs) q h = let e = h 0 (omega arith) in let r = map-each F G ms cs (omega arith) (λ i l. h (suc i) (omega (arith, l))) in λ i. e i ∷ r i
-
   -- a copy has the value of the node
   module _ (value : Tag → List Y → Y) (table : ℕ) (u b : Arena) (g : sound table u ≡ true) (h : sound table b ≡ true) where
     pub copy-fold : {n m : ℕ} → CopyOf u b n m → fold value b m ≡ fold value u n

@@ -18,6 +18,7 @@ use Rattle.types.proofs.Sound.{at-formed, fold-at}
 use Rattle.types.proofs.Memories.{unique}
 use Rattle.names.specs.Table.{Name, split}
 use Rattle.node_store.specs.Inner.Stored.{InRange, NodeAt}
+use Rattle.spelling.specs.declared.Spelling.{Spelling}
 use Rattle.text_writing.specs.Text.{when, beginning, parens, before, ending, shown, Printed, child-text, child-texts, node-text, type-text}
 use Rattle.text_writing.specs.Inner.Writes.{Writes, IsFormed}
 use Rattle.text_writing.specs.Inner.Children.{ChildOf, encloses, IsChild, Opens, Closes}
@@ -56,29 +57,29 @@ abbrev shown-of : Node → List ℕ
 shown-of x = shown (tag x) (children x)
 
 -- the children of node n from child i on, and the end
-abbrev rest : List Name → Arena → ℕ → ℕ → List ℕ
-rest ns a n i = child-texts ns (tag (at a n)) i (map (fold (node-text ns) a) (drop i (shown-of (at a n))))
+abbrev rest : Spelling → List Name → Arena → ℕ → ℕ → List ℕ
+rest sp ns a n i = child-texts sp ns (tag (at a n)) i (map (fold (node-text sp ns) a) (drop i (shown-of (at a n))))
 
 abbrev closing : Node → List ℕ
 closing x = ending (tag x) (length (children x))
 
-module _ (ns : List Name) (table : ℕ) (a : Arena) (h : sound table a ≡ true) (n : ℕ) (l : n < length a) where
-  node-is : fold (node-text ns) a n ≡ node-text ns (tag (at a n)) (map (fold (node-text ns) a) (children (at a n)))
-  node-is = fold-at (node-text ns) table a h n l
+module _ (sp : Spelling) (ns : List Name) (table : ℕ) (a : Arena) (h : sound table a ≡ true) (n : ℕ) (l : n < length a) where
+  node-is : fold (node-text sp ns) a n ≡ node-text sp ns (tag (at a n)) (map (fold (node-text sp ns) a) (children (at a n)))
+  node-is = fold-at (node-text sp ns) table a h n l
 
-  text-is : beginning ns (tag (at a n)) ++ rest ns a n 0 ++ closing (at a n) ≡ type-text ns a n
+  text-is : beginning sp ns (tag (at a n)) ++ rest sp ns a n 0 ++ closing (at a n) ≡ type-text sp ns a n
   unfolding type-text node-text
   text-is =
-      let f = fold (node-text ns) a in
+      let f = fold (node-text sp ns) a in
       sym (ap (λ (p : Printed). p .text) node-is
-      ∙ (λ i. beginning ns (tag (at a n)) ++ child-texts ns (tag (at a n)) 0 (shown-map f (tag (at a n)) (children (at a n)) i) ++ ending (tag (at a n)) (length-map (children (at a n)) f i)))
+      ∙ (λ i. beginning sp ns (tag (at a n)) ++ child-texts sp ns (tag (at a n)) 0 (shown-map f (tag (at a n)) (children (at a n)) i) ++ ending (tag (at a n)) (length-map (children (at a n)) f i)))
 
-  number-is : fold (node-text ns) a n .number ≡ disc (kind (tag (at a n)))
+  number-is : fold (node-text sp ns) a n .number ≡ disc (kind (tag (at a n)))
   unfolding node-text
   number-is = ap (λ (p : Printed). p .number) node-is
 
 -- ---- before the loop
-pub prints-over : {t w s : List ℕ} {c : Counters} {n : ℕ} {b : List ℕ} {count : ℕ} → length b < count → Prints t w s c n b count b count
+pub prints-over : {sp : Spelling} {t w s : List ℕ} {c : Counters} {n : ℕ} {b : List ℕ} {count : ℕ} → length b < count → Prints sp t w s c n b count b count
 prints-over l = record { is = λ table a H. writes-over l }
 
 module _ {w s : List ℕ} {c : Counters} {n : ℕ} (R : InRange w s c n) where
@@ -98,8 +99,8 @@ module _ {w s : List ℕ} {c : Counters} {n : ℕ} (R : InRange w s c n) where
   its-children e = ap children-in e ∙ children-encode (at view n) (at-formed _ view (R .lent .holds .good) n low)
 
   -- what is shown of one arena is shown of any
-  prints : {t b : List ℕ} {count : ℕ} {b′ : List ℕ} {end : ℕ} → Writes b count (type-text (split t) view n) b′ end → Prints t w s c n b count b′ end
-  prints {t} {b} {count} {b′} {end} W = record { is = λ table a H. subst (λ (v : Arena). Writes b count (type-text (split t) v n) b′ end) (unique (R .lent .holds) H) W }
+  prints : {sp : Spelling} {t b : List ℕ} {count : ℕ} {b′ : List ℕ} {end : ℕ} → Writes b count (type-text sp (split t) view n) b′ end → Prints sp t w s c n b count b′ end
+  prints {sp} {t} {b} {count} {b′} {end} W = record { is = λ table a H. subst (λ (v : Arena). Writes b count (type-text sp (split t) v n) b′ end) (unique (R .lent .holds) H) W }
 
   module _ {x : ℕ} (e : x ≡ n) where
     pub node-range : InRange w s c x
@@ -113,17 +114,17 @@ module _ {w s : List ℕ} {c : Counters} {n : ℕ} (R : InRange w s c n) where
       node-formed = its-formed its-words
 
 -- ---- the loop over the children, from the bytes b₀ and their count behind the beginning
-pub record Printing (t w s : List ℕ) (c : Counters) (n : ℕ) (ws : List ℕ) (many : ℕ) (b₀ : List ℕ) (end₀ : ℕ) (b : List ℕ) (end i : ℕ) : Type 0 where
+pub record Printing (sp : Spelling) (t w s : List ℕ) (c : Counters) (n : ℕ) (ws : List ℕ) (many : ℕ) (b₀ : List ℕ) (end₀ : ℕ) (b : List ℕ) (end i : ℕ) : Type 0 where
   pub start : InRange w s c n
   pub words : ws ≡ encode (at (start .lent .view) n)
   pub counted : many ≡ length (shown-of (at (start .lent .view) n))
   pub turn : i ≤ many
   pub so-far : List ℕ
   pub written : Writes b₀ end₀ so-far b end
-  pub left : so-far ++ rest (split t) (start .lent .view) n i ≡ rest (split t) (start .lent .view) n 0
+  pub left : so-far ++ rest sp (split t) (start .lent .view) n i ≡ rest sp (split t) (start .lent .view) n 0
 
-pub printing-start : {t w s : List ℕ} {c : Counters} {n : ℕ} {ws : List ℕ} {many : ℕ} {b : List ℕ} {end x : ℕ}
-    → many ≡ length (shown (tag (guess ws)) (children-in ws)) → NodeAt w s c x ws → x ≡ n → InRange w s c n → Printing t w s c n ws many b end b end 0
+pub printing-start : {sp : Spelling} {t w s : List ℕ} {c : Counters} {n : ℕ} {ws : List ℕ} {many : ℕ} {b : List ℕ} {end x : ℕ}
+    → many ≡ length (shown (tag (guess ws)) (children-in ws)) → NodeAt w s c x ws → x ≡ n → InRange w s c n → Printing sp t w s c n ws many b end b end 0
 printing-start {n = n} {ws} k N e R =
     let p : ws ≡ encode (at (view R) n) = its-words R e N in
     record {
@@ -136,8 +137,8 @@ printing-start {n = n} {ws} k N e R =
       left = refl;
     }
 
-module _ {t w s : List ℕ} {c : Counters} {n : ℕ} {ws : List ℕ} {many : ℕ} {b₀ : List ℕ} {end₀ : ℕ} {b : List ℕ} {end i : ℕ}
-    (P : Printing t w s c n ws many b₀ end₀ b end i) where
+module _ {sp : Spelling} {t w s : List ℕ} {c : Counters} {n : ℕ} {ws : List ℕ} {many : ℕ} {b₀ : List ℕ} {end₀ : ℕ} {b : List ℕ} {end i : ℕ}
+    (P : Printing sp t w s c n ws many b₀ end₀ b end i) where
   abbrev a : Arena
   a = P .start .lent .view
 
@@ -163,40 +164,40 @@ module _ {t w s : List ℕ} {c : Counters} {n : ℕ} {ws : List ℕ} {many : ℕ
       printing-range = child-range printing-child refl M
 
       -- child i and those after it
-      next : rest (split t) a n i
-          ≡ before (split t) (tag x) i (encloses a n i) ++ type-text (split t) a m ++ when (encloses a n i) (bytes ")") ++ rest (split t) a n (i + 1)
+      next : rest sp (split t) a n i
+          ≡ before sp (split t) (tag x) i (encloses a n i) ++ type-text sp (split t) a m ++ when (encloses a n i) (bytes ")") ++ rest sp (split t) a n (i + 1)
       unfolding child-texts child-text type-text encloses
       next =
-          let f = fold (node-text (split t)) a in
+          let f = fold (node-text sp (split t)) a in
           let cs = shown-of x in
           let k : i < length cs = omega (arith, h, P .counted) in
           let e : m ≡ getD (children x) i 0 = M .is _ a (P .start .lent .holds) in
           let d : getD cs i 0 ≡ m = ap (λ (l : List ℕ). getD l i 0) all-shown ∙ sym e in
           let o = child-below printing-child M in
           let q : f m .number ≡ disc (kind (tag (at a (getD (children x) i 0))))
-          = number-is (split t) _ a (P .start .lent .holds .good) m (omega (arith, o, low (P .start))) ∙ ap (λ (v : ℕ). disc (kind (tag (at a v)))) e in
-          ap (λ (l : List ℕ). child-texts (split t) (tag x) i (map f l)) (drop-cons cs i 0 k)
-          ∙ ap (λ (v : ℕ). child-texts (split t) (tag x) i (f v ∷ map f (drop (suc i) cs))) d
-          ∙ (λ j. before (split t) (tag x) i (parens (tag x) i (q j)) ++ f m .text ++ when (parens (tag x) i (q j)) (bytes ")") ++ child-texts (split t) (tag x) (sym (add-one i) j) (map f (drop (sym (add-one i) j) cs)))
+          = number-is sp (split t) _ a (P .start .lent .holds .good) m (omega (arith, o, low (P .start))) ∙ ap (λ (v : ℕ). disc (kind (tag (at a v)))) e in
+          ap (λ (l : List ℕ). child-texts sp (split t) (tag x) i (map f l)) (drop-cons cs i 0 k)
+          ∙ ap (λ (v : ℕ). child-texts sp (split t) (tag x) i (f v ∷ map f (drop (suc i) cs))) d
+          ∙ (λ j. before sp (split t) (tag x) i (parens (tag x) i (q j)) ++ f m .text ++ when (parens (tag x) i (q j)) (bytes ")") ++ child-texts sp (split t) (tag x) (sym (add-one i) j) (map f (drop (sym (add-one i) j) cs)))
 
   pub printing-done : many ≤ i → {b′ : List ℕ} {r : ℕ} → Writes b end (ending (tag (guess ws)) (length (children-in ws))) b′ r
-      → {b₁ : List ℕ} {count : ℕ} → Writes b₁ count (beginning (split t) (tag (guess ws))) b₀ end₀ → Prints t w s c n b₁ count b′ r
+      → {b₁ : List ℕ} {count : ℕ} → Writes b₁ count (beginning sp (split t) (tag (guess ws))) b₀ end₀ → Prints sp t w s c n b₁ count b′ r
   unfolding child-texts
   printing-done h {b′} {r} W {b₁} {count} U =
       let g = its-guess (P .start) (P .words) in
       let none : drop i (shown-of x) ≡ [] = drop-of-length-le (shown-of x) {i = i} (omega (arith, h, P .counted)) in
       let e : ending (tag (guess ws)) (length (children-in ws)) ≡ closing x = λ j. ending (tag (g j)) (length (its-children (P .start) (P .words) j)) in
-      let all : P .so-far ≡ rest (split t) a n 0
-      = sym (append-nil (P .so-far)) ∙ ap (λ (l : List ℕ). P .so-far ++ child-texts (split t) (tag x) i (map (fold (node-text (split t)) a) l)) (sym none) ∙ P .left in
+      let all : P .so-far ≡ rest sp (split t) a n 0
+      = sym (append-nil (P .so-far)) ∙ ap (λ (l : List ℕ). P .so-far ++ child-texts sp (split t) (tag x) i (map (fold (node-text sp (split t)) a) l)) (sym none) ∙ P .left in
       prints (P .start) (subst (λ (l : List ℕ). Writes b₁ count l b′ r)
-      ((λ j. beginning (split t) (tag (g j)) ++ all j ++ e j) ∙ text-is (split t) _ a (P .start .lent .holds .good) n (low (P .start)))
+      ((λ j. beginning sp (split t) (tag (g j)) ++ all j ++ e j) ∙ text-is sp (split t) _ a (P .start .lent .holds .good) n (low (P .start)))
       (writes-three U (P .written) W))
 
 -- what was written comes first among the premises, so that `search` meets it first
-pub printing-more : {t w s : List ℕ} {c : Counters} {n : ℕ} {ws : List ℕ} {many : ℕ} {b₀ : List ℕ} {end₀ : ℕ} {b : List ℕ} {end i : ℕ} {b₁ : List ℕ} {e₁ m : ℕ} {b₂ : List ℕ} {e₂ : ℕ} {b₃ : List ℕ} {e₃ : ℕ}
-    → Closes w s c n i b₂ e₂ b₃ e₃ → Prints t w s c m b₁ e₁ b₂ e₂ → IsChild w s c n i m → Opens t w s c n i b end b₁ e₁
-    → i < many → Printing t w s c n ws many b₀ end₀ b end i → Printing t w s c n ws many b₀ end₀ b₃ e₃ (i + 1)
-printing-more {t} {n = n} {i = i} {m = m} X D M W h P = record {
+pub printing-more : {sp : Spelling} {t w s : List ℕ} {c : Counters} {n : ℕ} {ws : List ℕ} {many : ℕ} {b₀ : List ℕ} {end₀ : ℕ} {b : List ℕ} {end i : ℕ} {b₁ : List ℕ} {e₁ m : ℕ} {b₂ : List ℕ} {e₂ : ℕ} {b₃ : List ℕ} {e₃ : ℕ}
+    → Closes w s c n i b₂ e₂ b₃ e₃ → Prints sp t w s c m b₁ e₁ b₂ e₂ → IsChild w s c n i m → Opens sp t w s c n i b end b₁ e₁
+    → i < many → Printing sp t w s c n ws many b₀ end₀ b end i → Printing sp t w s c n ws many b₀ end₀ b₃ e₃ (i + 1)
+printing-more {sp} {t} {n = n} {i = i} {m = m} X D M W h P = record {
   start = P .start;
   words = P .words;
   counted = P .counted;
@@ -207,4 +208,4 @@ printing-more {t} {n = n} {i = i} {m = m} X D M W h P = record {
 }
   where
     piece : List ℕ
-    piece = before (split t) (tag (x P)) i (encloses (a P) n i) ++ type-text (split t) (a P) m ++ when (encloses (a P) n i) (bytes ")")
+    piece = before sp (split t) (tag (x P)) i (encloses (a P) n i) ++ type-text sp (split t) (a P) m ++ when (encloses (a P) n i) (bytes ")")

@@ -20,10 +20,11 @@ use Rattle.soundness.proofs.Verdicts.{lent-known}
 use Rattle.walks.specs.Asked.{asking}
 use Rattle.walks.specs.Inner.Asked.{Says, Answers}
 use Rattle.walks.proofs.Asking.{root-out, root-in, ask-refused, ask-done}
+use Rattle.spelling.specs.declared.Spelling.{Spelling}
 use Rattle.text_writing.specs.Text.{type-text}
 use Rattle.text_writing.specs.Inner.Writes.{Writes}
 use Rattle.display.specs.Inner.{Prints}
-use Rattle.display.specs.Reply.{reply, displaying, reply-of, display-reply, left}
+use Rattle.display.specs.Reply.{reply, displaying, reply-of, print-reply, left}
 use Rattle.display.specs.Inner.{Displays, DisplaysRoot}
 use Rattle.display.specs.declared.Displayed.{Displayed}
 use Rattle.display.specs.declared.Displayed.the-variants as displayed
@@ -71,10 +72,10 @@ module _ (b : List ℕ) {limit : ℕ} (l : limit ≡ min (length b) 65536) where
   all-bytes : (b₁ : List ℕ) → length b₁ ≡ length (take limit b) → length (b₁ ++ drop limit b) ≡ length b
   all-bytes b₁ e = length-append b₁ (drop limit b) ∙ ap (λ (k : ℕ). k + length (drop limit b)) e ∙ sym (length-append (take limit b) (drop limit b)) ∙ ap length (take-append-drop limit b)
 
-module _ {t w s : List ℕ} {c : Counters} {root : ℕ} (b : List ℕ) {limit : ℕ} (l : limit ≡ min (length b) 65536) where
-  pub displays-nine : {b₁ b′ : List ℕ} {end : ℕ} → Prints t w s c root (take limit b) 0 b₁ end → limit < end → b′ ≡ replicate (length (b₁ ++ drop limit b)) 0 → Displays t w s c root b b′ (displayed.Refused 9)
+module _ {sp : Spelling} {t w s : List ℕ} {c : Counters} {root : ℕ} (b : List ℕ) {limit : ℕ} (l : limit ≡ min (length b) 65536) where
+  pub displays-nine : {b₁ b′ : List ℕ} {end : ℕ} → Prints sp t w s c root (take limit b) 0 b₁ end → limit < end → b′ ≡ replicate (length (b₁ ++ drop limit b)) 0 → Displays sp t w s c root b b′ (displayed.Refused 9)
   unfolding displaying
-  displays-nine {b₁} {b′} {end} P h e = record { is = λ table a H. over (type-text (split t) a root) (P .is table a H) }
+  displays-nine {b₁} {b′} {end} P h e = record { is = λ table a H. over (type-text sp (split t) a root) (P .is table a H) }
     where
       over : (x : List ℕ) → Writes (take limit b) 0 x b₁ end → reply (refuse 9) b′ ≡ displaying b x
       over x W = go (decLe (length x) limit)
@@ -83,9 +84,9 @@ module _ {t w s : List ℕ} {c : Counters} {root : ℕ} (b : List ℕ) {limit : 
           go (yes f) = let p = W .fits (omega (arith, f, limit-length b l)) in absurd (omega (arith, p, h, f))
           go (no f) = ap (reply (refuse 9)) (e ∙ ap (λ (k : ℕ). replicate k 0) (all-bytes b l b₁ (W .long))) ∙ sym (rw (displaying, lt-leb (length x) (min (length b) 65536) (omega (arith, f, l))))
 
-  pub displays-text : {b₁ : List ℕ} {end : ℕ} → Prints t w s c root (take limit b) 0 b₁ end → end ≤ limit → Displays t w s c root b (b₁ ++ drop limit b) (displayed.Text end)
+  pub displays-text : {b₁ : List ℕ} {end : ℕ} → Prints sp t w s c root (take limit b) 0 b₁ end → end ≤ limit → Displays sp t w s c root b (b₁ ++ drop limit b) (displayed.Text end)
   unfolding displaying
-  displays-text {b₁} {end} P h = record { is = λ table a H. fit (type-text (split t) a root) (P .is table a H) }
+  displays-text {b₁} {end} P h = record { is = λ table a H. fit (type-text sp (split t) a root) (P .is table a H) }
     where
       fit : (x : List ℕ) → Writes (take limit b) 0 x b₁ end → reply (ok end) (b₁ ++ drop limit b) ≡ displaying b x
       fit x W = go (decLe (length x) limit)
@@ -103,29 +104,29 @@ module _ {t w s : List ℕ} {c : Counters} {root : ℕ} (b : List ℕ) {limit : 
           go (no f) = let p = W .full (omega (arith, f, limit-length b l)) in absurd (omega (arith, p, h, limit-length b l))
 
 -- ---- after 6
-module _ {t w s : List ℕ} {c : Counters} {root x : ℕ} (e : x ≡ root) where
-  pub root-six : {b : List ℕ} → c .nodes ≤ x → DisplaysRoot t w s c root b b (displayed.Refused 6)
+module _ {sp : Spelling} {t w s : List ℕ} {c : Counters} {root x : ℕ} (e : x ≡ root) where
+  pub root-six : {b : List ℕ} → c .nodes ≤ x → DisplaysRoot sp t w s c root b b (displayed.Refused 6)
   unfolding reply-of
-  root-six {b} h = record { is = λ table a H. ap (reply-of b) (root-out (type-text (split t)) (subst (λ (k : ℕ). c .nodes ≤ k) e h) .is table a H) }
+  root-six {b} h = record { is = λ table a H. ap (reply-of b) (root-out (type-text sp (split t)) (subst (λ (k : ℕ). c .nodes ≤ k) e h) .is table a H) }
 
-  pub root-text : {b b′ : List ℕ} {r : Displayed} → x < c .nodes → Displays t w s c root b b′ r → DisplaysRoot t w s c root b b′ r
+  pub root-text : {b b′ : List ℕ} {r : Displayed} → x < c .nodes → Displays sp t w s c root b b′ r → DisplaysRoot sp t w s c root b b′ r
   unfolding reply-of
   root-text {b} h D = record {
     is = λ table a H.
-        let S : Says (type-text (split t)) w s c root (type-text (split t) a root) = record { is = λ k v K. ap (λ (d : Arena). type-text (split t) d root) (unique H K) } in
-        D .is table a H ∙ ap (reply-of b) (root-in (type-text (split t)) (subst (λ (k : ℕ). k < c .nodes) e h) S .is table a H);
+        let S : Says (type-text sp (split t)) w s c root (type-text sp (split t) a root) = record { is = λ k v K. ap (λ (d : Arena). type-text sp (split t) d root) (unique H K) } in
+        D .is table a H ∙ ap (reply-of b) (root-in (type-text sp (split t)) (subst (λ (k : ℕ). k < c .nodes) e h) S .is table a H);
   }
 
 -- ---- after 1 and 2
-module _ (t w s : List ℕ) (c : Counters) (root : ℕ) (b : List ℕ) {j : Judged} (e : judged-out j ≡ lent-reply t w s c) where
-  pub display-refused : {k : ℕ} → j ≡ verdict.Refused k → left (displayed.Refused k) b ≡ display-reply t w s c root b
-  unfolding display-reply reply-of
-  display-refused p = ap (reply-of b) (ask-refused (type-text (split t)) t w s c root e p)
+module _ (sp : Spelling) (t w s : List ℕ) (c : Counters) (root : ℕ) (b : List ℕ) {j : Judged} (e : judged-out j ≡ lent-reply t w s c) where
+  pub print-refused : {k : ℕ} → j ≡ verdict.Refused k → left (displayed.Refused k) b ≡ print-reply sp t w s c root b
+  unfolding print-reply reply-of
+  print-refused p = ap (reply-of b) (ask-refused (type-text sp (split t)) t w s c root e p)
 
-  pub display-done : {k : ℕ} → j ≡ verdict.Names k → {b′ : List ℕ} {r : Displayed} → DisplaysRoot t w s c root b b′ r → left r b′ ≡ display-reply t w s c root b
-  unfolding display-reply
-  display-done p D =
+  pub print-done : {k : ℕ} → j ≡ verdict.Names k → {b′ : List ℕ} {r : Displayed} → DisplaysRoot sp t w s c root b b′ r → left r b′ ≡ print-reply sp t w s c root b
+  unfolding print-reply
+  print-done p D =
       let L = lent-known t w s c e p in
-      let q = type-text (split t) in
+      let q = type-text sp (split t) in
       let A : Answers q w s c root (asking q root (L .view)) = record { is = λ k a H. ap (asking q root) (unique (L .holds) H) } in
       D .is _ (L .view) (L .holds) ∙ ap (reply-of b) (ask-done q t w s c root e p refl A)

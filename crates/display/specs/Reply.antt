@@ -1,4 +1,4 @@
--- What `display` answers and leaves (01, "Who can cause which number").
+-- What `display` and `display_nix` answer and leave (01, "Who can cause which number"; 02, A1).
 use Prim.Native.Nat.{ℕ, min}
 use mathlib.Core.Bool.{true, false}
 use mathlib.Core.List.{List, _++_}
@@ -8,6 +8,8 @@ use Rattle.types.specs.Out.{Out, ok, refuse}
 use Rattle.types.specs.declared.Counters.{Counters}
 use Rattle.names.specs.Table.{split}
 use Rattle.walks.specs.Asked.{ask-reply}
+use Rattle.spelling.specs.declared.Spelling.{Spelling}
+use Rattle.spelling.specs.declared.Spelling.the-variants as spelling
 use Rattle.text_writing.specs.Text.{type-text}
 use Rattle.display.specs.declared.Displayed.{Displayed}
 use Rattle.display.specs.declared.Displayed.the-variants as displayed
@@ -29,10 +31,20 @@ unfolding displaying
 reply-of b (ok x) = displaying b x
 reply-of b (refuse e) = reply (refuse e) b
 
--- 1, 2 and 6, then the text of the type of the root, with the names of the table t
-unfoldable pub display-reply : List ℕ → List ℕ → List ℕ → Counters → ℕ → List ℕ → Reply
+-- 1, 2 and 6, then the text of the type of the root, with the names of the table t so spelled
+unfoldable pub print-reply : Spelling → List ℕ → List ℕ → List ℕ → Counters → ℕ → List ℕ → Reply
 unfolding reply-of ask-reply split type-text
-display-reply t w s c root b = reply-of b (ask-reply (type-text (split t)) t w s c root)
+print-reply sp t w s c root b = reply-of b (ask-reply (type-text sp (split t)) t w s c root)
+
+-- names as they stand in the table: the Rust's text
+unfoldable pub display-reply : List ℕ → List ℕ → List ℕ → Counters → ℕ → List ℕ → Reply
+unfolding print-reply
+display-reply = print-reply spelling.Bare
+
+-- names as the Nix manual writes them (02, A1)
+unfoldable pub display-nix-reply : List ℕ → List ℕ → List ℕ → Counters → ℕ → List ℕ → Reply
+unfolding print-reply
+display-nix-reply = print-reply spelling.Nix
 
 -- the enum's cases: the length of the text; the number of a refusal
 abbrev pub displayed-out : Displayed → Out ℕ

@@ -1,8 +1,9 @@
-// The text of a type in lent bytes. `display` is the call open to a host; `display_in` is for callers that know the arena
-// sound and its root there. specs/Reply.antt says what they answer and leave.
+// The text of a type in lent bytes. `display` and `display_nix` are the calls open to a host; `display_in` is for callers that
+// know the arena sound and its root there. specs/Reply.antt says what they answer and leave.
 use node_store::stored::node_at;
 use soundness::Judged;
 use soundness::judge;
+use spelling::Spelling;
 use text_writing::children::child_of;
 use text_writing::children::close_child;
 use text_writing::children::open_child;
@@ -17,7 +18,7 @@ ghost use Rattle.types.specs.Out.{number};
 ghost use lib.ListN.{length, replicate};
 ghost use Rattle.node_store.specs.Inner.Stored.{Lent, InRange};
 ghost use Rattle.display.specs.Inner.{Prints};
-ghost use Rattle.display.specs.Reply.{display-reply, displayed-out, left};
+ghost use Rattle.display.specs.Reply.{print-reply, display-reply, display-nix-reply, displayed-out, left};
 ghost use Rattle.display.specs.Inner.{Displays, DisplaysRoot};
 
 // The length of the text, or the number of a refusal.
@@ -55,6 +56,7 @@ fn limit_of(lent: usize) -> usize
 // a call returns at once.
 fn write_ty(
     table: &[u8],
+    spelling: Spelling,
     words: &[u32],
     starts: &[u32],
     c: Counters,
@@ -63,7 +65,7 @@ fn write_ty(
     count: usize,
 ) -> usize
     requires { ⌜ InRange (now words) (now starts) c n ⌝ }
-    ensures { λ r. ⌜ Prints (now (table .entry)) (now (words .entry)) (now (starts .entry)) c n (now (text .entry))
+    ensures { λ r. ⌜ Prints spelling (now (table .entry)) (now (words .entry)) (now (starts .entry)) c n (now (text .entry))
         count (now (text .exit)) r ⌝ }
 {
     if count > text.len() {
@@ -71,12 +73,12 @@ fn write_ty(
     }
     let node = node_at(words, starts, c, wide(n));
     let children = shown_count(node);
-    let mut end = write_beginning(table, node, text, count);
+    let mut end = write_beginning(table, spelling, node, text, count);
     let mut i = 0;
     while i < children {
-        end = open_child(table, words, starts, c, n, i, text, end);
+        end = open_child(table, spelling, words, starts, c, n, i, text, end);
         let child = child_of(words, starts, c, n, i);
-        end = write_ty(table, words, starts, c, child, text, end);
+        end = write_ty(table, spelling, words, starts, c, child, text, end);
         end = close_child(words, starts, c, n, i, text, end);
         i += 1;
     }
@@ -97,6 +99,7 @@ fn clear(text: &mut [u8])
 // The text of the root's type, in an arena that is known to be sound. A text that fits is no longer than the limit.
 pub fn display_in(
     table: &[u8],
+    spelling: Spelling,
     words: &[u32],
     starts: &[u32],
     c: Counters,
@@ -104,11 +107,20 @@ pub fn display_in(
     text: &mut [u8],
 ) -> Displayed
     requires { ⌜ InRange (now words) (now starts) c root ⌝ }
-    ensures { λ r. ⌜ Displays (now (table .entry)) (now (words .entry)) (now (starts .entry)) c root
+    ensures { λ r. ⌜ Displays spelling (now (table .entry)) (now (words .entry)) (now (starts .entry)) c root
         (now (text .entry)) (now (text .exit)) r ⌝ }
 {
     let limit = limit_of(text.len());
-    let end = write_ty(table, words, starts, c, root, &mut text[..limit], 0);
+    let end = write_ty(
+        table,
+        spelling,
+        words,
+        starts,
+        c,
+        root,
+        &mut text[..limit],
+        0,
+    );
     if end > limit {
         clear(text);
         return Displayed::Refused(9);
@@ -119,6 +131,7 @@ pub fn display_in(
 // The same after 1 and 2.
 fn display_root(
     table: &[u8],
+    spelling: Spelling,
     words: &[u32],
     starts: &[u32],
     c: Counters,
@@ -126,16 +139,36 @@ fn display_root(
     text: &mut [u8],
 ) -> Displayed
     requires { ⌜ Lent (now words) (now starts) c ⌝ }
-    ensures { λ r. ⌜ DisplaysRoot (now (table .entry)) (now (words .entry)) (now (starts .entry)) c root (now (text .entry))
+    ensures { λ r. ⌜ DisplaysRoot spelling (now (table .entry)) (now (words .entry)) (now (starts .entry)) c root (now (text .entry))
         (now (text .exit)) r ⌝ }
 {
     if wide(root) >= c.nodes {
         return Displayed::Refused(6);
     }
-    display_in(table, words, starts, c, root, text)
+    display_in(table, spelling, words, starts, c, root, text)
 }
 
-// The text of the root's type.
+// The text of the root's type, its names so spelled, or a refusal.
+fn print(
+    table: &[u8],
+    spelling: Spelling,
+    words: &[u32],
+    starts: &[u32],
+    c: Counters,
+    root: u32,
+    text: &mut [u8],
+) -> Displayed
+    ensures { λ r. ⌜ left r (now (text .exit))
+        ≡ print-reply spelling (now (table .entry)) (now (words .entry)) (now (starts .entry)) c root (now (text .entry)) ⌝ }
+{
+    let lent = judge(table, words, starts, c);
+    match lent {
+        Judged::Names(count) => display_root(table, spelling, words, starts, c, root, text),
+        Judged::Refused(number) => Displayed::Refused(number),
+    }
+}
+
+// The text of the root's type, its names as they stand in the table.
 pub fn display(
     table: &[u8],
     words: &[u32],
@@ -147,9 +180,20 @@ pub fn display(
     ensures { λ r. ⌜ left r (now (text .exit))
         ≡ display-reply (now (table .entry)) (now (words .entry)) (now (starts .entry)) c root (now (text .entry)) ⌝ }
 {
-    let lent = judge(table, words, starts, c);
-    match lent {
-        Judged::Names(count) => display_root(table, words, starts, c, root, text),
-        Judged::Refused(number) => Displayed::Refused(number),
-    }
+    print(table, Spelling::Bare, words, starts, c, root, text)
+}
+
+// The same, its names as the Nix manual writes them.
+pub fn display_nix(
+    table: &[u8],
+    words: &[u32],
+    starts: &[u32],
+    c: Counters,
+    root: u32,
+    text: &mut [u8],
+) -> Displayed
+    ensures { λ r. ⌜ left r (now (text .exit))
+        ≡ display-nix-reply (now (table .entry)) (now (words .entry)) (now (starts .entry)) c root (now (text .entry)) ⌝ }
+{
+    print(table, Spelling::Nix, words, starts, c, root, text)
 }

@@ -19,8 +19,10 @@ use Rattle.arena.specs.Compare.{comparing, compare-reply}
 use Rattle.walks.specs.Asked.{asking, ask-reply}
 use Rattle.equal.specs.Equal.{equal}
 use Rattle.equal.specs.Reply.{lent-to, equal-roots, equal-reply}
+use Rattle.spelling.specs.declared.Spelling.{Spelling}
+use Rattle.spelling.specs.declared.Spelling.the-variants as spelling
 use Rattle.text_writing.specs.Text.{type-text}
-use Rattle.display.specs.Reply.{displaying, display-reply, reply-of as display-of}
+use Rattle.display.specs.Reply.{displaying, print-reply, display-reply, display-nix-reply, reply-of as display-of}
 use Rattle.sheet_writing.specs.Reply.{bytes-with, fitting, write-sheet-reply, reply-of as sheet-of}
 use Rattle.recursion.proofs.Answers.{ok-refuse}
 use Rattle.recursion.specs.Hosted.{Work, work-reply}
@@ -76,9 +78,17 @@ unfolding display-of displaying
 display-of-numbered b (value x) = by-test (λ r. Numbered (length-of r)) (leb (length x) (min (length b) 65536)) (value (length x)) (refusal (omega arith) (omega arith))
 display-of-numbered b (refusal l m) = refusal l m
 
+print-numbered : (sp : Spelling) (t w s : List ℕ) (c : Counters) (root : ℕ) (b : List ℕ) → Numbered (length-of (print-reply sp t w s c root b))
+unfolding print-reply
+print-numbered sp t w s c root b = display-of-numbered b (ask-numbered (type-text sp (split t)) t w s c root)
+
 pub display-numbered : (t w s : List ℕ) (c : Counters) (root : ℕ) (b : List ℕ) → Numbered (length-of (display-reply t w s c root b))
 unfolding display-reply
-display-numbered t w s c root b = display-of-numbered b (ask-numbered (type-text (split t)) t w s c root)
+display-numbered = print-numbered spelling.Bare
+
+pub display-nix-numbered : (t w s : List ℕ) (c : Counters) (root : ℕ) (b : List ℕ) → Numbered (length-of (display-nix-reply t w s c root b))
+unfolding display-nix-reply
+display-nix-numbered = print-numbered spelling.Nix
 
 fitting-numbered : (b x : List ℕ) → Numbered (fitting b x)
 unfolding fitting
@@ -141,6 +151,7 @@ all-numbered = record {
   ask = ask-numbered;
   equal = equal-numbered;
   display = display-numbered;
+  display-nix = display-nix-numbered;
   write-sheet = write-sheet-numbered;
   intern = intern-reply-numbered;
   simplify = simplify-reply-numbered;

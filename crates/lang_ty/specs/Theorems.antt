@@ -17,7 +17,7 @@ use Rattle.questions.specs.Vars.{has-type-vars}
 use Rattle.names.specs.Reply.{table-reply, name-reply}
 use Rattle.arena.specs.Intern.{intern-reply}
 use Rattle.arena.specs.Compare.{compare-reply}
-use Rattle.display.specs.Reply.{display-reply}
+use Rattle.display.specs.Reply.{display-reply, display-nix-reply}
 use Rattle.sheet_writing.specs.Reply.{write-sheet-reply}
 use Rattle.recursion.specs.Hosted.{work-reply}
 use Rattle.renumber.specs.Renumber.{normalize}
@@ -56,6 +56,7 @@ pub record AllNumbered : Type 1 where
   pub ask : {A : Type 0} (q : Arena → ℕ → A) (t w s : List ℕ) (c : Counters) (root : ℕ) → Numbered (ask-reply q t w s c root)
   pub equal : (t w s : List ℕ) (c : Counters) (m : ℕ) (u v r : List ℕ) (d : Counters) (n : ℕ) → Numbered (equal-reply t w s c m u v r d n)
   pub display : (t w s : List ℕ) (c : Counters) (root : ℕ) (b : List ℕ) → Numbered (length-of (display-reply t w s c root b))
+  pub display-nix : (t w s : List ℕ) (c : Counters) (root : ℕ) (b : List ℕ) → Numbered (length-of (display-nix-reply t w s c root b))
   pub write-sheet : (t w s : List ℕ) (c : Counters) (root : ℕ) (b : List ℕ) → Numbered (length-of (write-sheet-reply t w s c root b))
   pub intern : (t w s : List ℕ) (c : Counters) (ws : List ℕ) → Numbered (answer-of (intern-reply t w s c ws))
   pub simplify : (t w s : List ℕ) (c : Counters) (root : ℕ) → Numbered (answer-of (simplify-reply t w s c root))

@@ -28,7 +28,7 @@ pub data ToldArena (A : Type 0) : Type 0 where
 abbrev pub tell-arena : {A : Type 0} → A → Reply A → ToldArena A
 tell-arena old (reply o c w s) = told-arena (number o) (or-left old o) c w s
 
--- the same of `display` and `write_sheet`, which are lent bytes: also all of them
+-- the same of `display`, `display_nix` and `write_sheet`, which are lent bytes: also all of them
 pub data ToldText : Type 0 where
   told-text : ℕ → ℕ → List ℕ → ToldText
 

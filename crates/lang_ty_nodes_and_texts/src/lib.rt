@@ -1,10 +1,11 @@
 // The calls of the C interface on nodes, names and texts, a part of the static library (host/archive): each hands its arguments to
 // the call of that name and tells the answer as a number, 0 or that of a refusal. A result is written where it is lent; a refusal
-// writes none, but 9 clears the bytes that are lent to `display`.
+// writes none, but 9 clears the bytes that are lent to `display` and `display_nix`.
 use arena::Compared;
 use arena::compare;
 use display::Displayed;
 use display::display;
+use display::display_nix;
 use lent_counters::Stored;
 use lent_counters::intern_lent_pair;
 use names::Placed;
@@ -25,7 +26,7 @@ ghost use Rattle.names.specs.Table.{name-order};
 ghost use Rattle.names.specs.Reply.{table-reply, table-out, name-reply, placed-out};
 ghost use Rattle.arena.specs.Intern.{intern-reply};
 ghost use Rattle.arena.specs.Compare.{compare-reply, compared-out};
-ghost use Rattle.display.specs.Reply.{display-reply};
+ghost use Rattle.display.specs.Reply.{display-reply, display-nix-reply, displayed-out};
 ghost use Rattle.sheet_writing.specs.Reply.{write-sheet-reply, written-out};
 ghost use Rattle.sheet_format.specs.Line.{WritesLine};
 ghost use Rattle.lang_ty.specs.Told.{told, tell, told-arena, tell-arena, told-text, tell-text, as-number, order-number};
@@ -174,7 +175,18 @@ pub extern "C" fn lang_ty_tyvar_name(index: u32, text: &mut [u8; 11], len: &mut 
     0
 }
 
-// The text of the root's type.
+// What is told of a text: its length, or the number of a refusal.
+fn tell_length(answer: Displayed, len: &mut usize) -> u32
+    ensures { λ r. ⌜ told r (now (len .exit)) ≡ tell (now (len .entry)) (displayed-out answer) ⌝ }
+{
+    let Displayed::Text(n) = answer else {
+        return answer.refusal();
+    };
+    *len = n;
+    0
+}
+
+// The text of the root's type, its names as they stand in the table.
 #[no_mangle]
 pub extern "C" fn lang_ty_display(
     table: &[u8],
@@ -191,12 +203,27 @@ pub extern "C" fn lang_ty_display(
         record { nodes = nodes; words = used } root (now (text .entry))) ⌝ }
 {
     let c = Counters { nodes, words: used };
-    let answer = display(table, words, starts, c, root, text);
-    let Displayed::Text(n) = answer else {
-        return answer.refusal();
-    };
-    *len = n;
-    0
+    tell_length(display(table, words, starts, c, root, text), len)
+}
+
+// The same, its names as the Nix manual writes them.
+#[no_mangle]
+pub extern "C" fn lang_ty_display_nix(
+    table: &[u8],
+    words: &[u32],
+    starts: &[u32],
+    nodes: usize,
+    used: usize,
+    root: u32,
+    text: &mut [u8],
+    len: &mut usize,
+) -> u32
+    ensures { λ r. ⌜ told-text r (now (len .exit)) (now (text .exit))
+        ≡ tell-text (now (len .entry)) (display-nix-reply (now (table .entry)) (now (words .entry)) (now (starts .entry))
+        record { nodes = nodes; words = used } root (now (text .entry))) ⌝ }
+{
+    let c = Counters { nodes, words: used };
+    tell_length(display_nix(table, words, starts, c, root, text), len)
 }
 
 // The number of a refused sheet.

@@ -16,6 +16,7 @@ use Rattle.simplify.specs.Inner.{Simplifies}
 use Rattle.simplify.specs.declared.Simplified.{Simplified}
 use Rattle.simplify.specs.declared.Simplified.the-variants as simplified
 use Rattle.simplify.proofs.Hosts.{Finished, finished, stopped}
+use Rattle.spelling.specs.declared.Spelling.the-variants as spelling
 use Rattle.text_writing.specs.Text.{type-text}
 use Rattle.display.specs.Reply.{displaying, left}
 use Rattle.display.specs.Inner.{Displays}
@@ -46,14 +47,14 @@ module _ {t w s : List ℕ} {c : Counters} {root : ℕ} {text : List ℕ} (S : S
           subst (Gives text (answer.Refused e)) (sym (ap (λ (x : Out Result). x >>= printed sh) o)) refused;
     }
 
-    module _ {n k : ℕ} {d : Counters} (q : r ≡ simplified.Type n k d) {text′ : List ℕ} {p : Displayed} (D : Displays t w′ s′ d n text text′ p) where
+    module _ {n k : ℕ} {d : Counters} (q : r ≡ simplified.Type n k d) {text′ : List ℕ} {p : Displayed} (D : Displays spelling.Nix t w′ s′ d n text text′ p) where
       -- the text that was displayed is that of the definition
       module _ (sh : Sheet) (T : IsTable t (sh .names)) (H : Holds (length (sh .names)) w s c (sh .arena)) (z : root ≡ sh .root) where
         run : Finished (length (sh .names)) (sh .arena) w′ s′ n k d (simplify (length w) (length s) root (sh .arena))
         run = finished (R .is (length (sh .names)) (sh .arena) H) q
 
         its-text : List ℕ
-        its-text = type-text (sh .names) (run .result .arena) (run .result .root)
+        its-text = type-text spelling.Nix (sh .names) (run .result .arena) (run .result .root)
 
         leads : simplify 16384 4096 (sh .root) (sh .arena) ≡ ok (run .result)
         leads = sym (run-is sh z) ∙ run .is
@@ -62,7 +63,7 @@ module _ {t w s : List ℕ} {c : Counters} {root : ℕ} {text : List ℕ} (S : S
         unfolding its-text
         displayed-is =
             D .is (length (sh .names)) (run .result .arena) (run .holds)
-            ∙ (λ i. displaying text (type-text (split-is T i) (run .result .arena) (run .root i)))
+            ∙ (λ i. displaying text (type-text spelling.Nix (split-is T i) (run .result .arena) (run .root i)))
 
         type-is : sheet-type sh ≡ (limited its-text >>= λ (x : List ℕ). ok (record { root = run .result .root; passes = length (run .result .taken); text = x }))
         unfolding sheet-type printed its-text _>>=_

@@ -1,4 +1,4 @@
--- The line of a sheet (01, "A sheet and its line").
+-- The line of a sheet (01, "A sheet and its line"; its names: 02, A1).
 use Prim.Native.Nat.{ℕ, _≤_}
 use mathlib.Core.Bool.{true, false}
 use mathlib.Core.List.{List, [], _∷_, _++_}
@@ -9,6 +9,7 @@ use Rattle.types.specs.Out.{Out, ok, refuse, _>>=_}
 use Rattle.types.specs.Bytes.{bytes}
 use Rattle.types.specs.Decimal.{decimal}
 use Rattle.simplification.specs.Passes.{Result, simplify}
+use Rattle.spelling.specs.declared.Spelling.the-variants as spelling
 use Rattle.text_writing.specs.Text.{type-text}
 use Rattle.sheet_reading.specs.Sheet.{Sheet, read-sheet}
 
@@ -22,11 +23,11 @@ pub record Outcome : Type 0 where
 unfoldable pub limited : List ℕ → Out (List ℕ)
 limited x = elim (leb (length x) 65536) [ true ↦ ok x | false ↦ refuse 9 ]
 
--- what a finished run of `simplify` gives, printed in the arena after, under the sheet's names
+-- what a finished run of `simplify` gives, printed in the arena after, with the sheet's names as the Nix manual writes them (02, A1)
 unfoldable pub printed : Sheet → Result → Out Outcome
 unfolding limited type-text _>>=_
 printed sh q =
-    limited (type-text (sh .names) (q .arena) (q .root))
+    limited (type-text spelling.Nix (sh .names) (q .arena) (q .root))
     >>= λ (x : List ℕ). ok (record { root = q .root; passes = length (q .taken); text = x })
 
 -- the type of the sheet's root, simplified in an arena of full size; 7 and 8 come from there

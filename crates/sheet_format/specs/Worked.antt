@@ -17,11 +17,12 @@ lined sheet line = record { sheet = sheet; line = bytes line ++ (10 ∷ []) }
 abbrev set-of-one : List ℕ
 set-of-one = 96 ∷ 0 ∷ 0 ∷ 1 ∷ 0 ∷ 0 ∷ 0 ∷ 0 ∷ []
 
--- (01, "A sheet and its line"): the example; a set with a name; a root that is no node; no byte at all
+-- (01, "A sheet and its line"): the example; a set with a name, and with one in quotes (02, A1); a root that is no node; no byte at all
 abbrev pub worked : List Case
 worked =
     lined example "1 2 int"
     ∷ lined (opens 1 2 1 ++ (1 ∷ 112 ∷ []) ++ primitive-of 2 ++ set-of-one) "1 2 { p: int }"
+    ∷ lined (opens 1 2 1 ++ (2 ∷ bytes "or") ++ primitive-of 2 ++ set-of-one) "1 2 { \"or\": int }"
     ∷ lined (opens 0 1 1 ++ variable) "refused 6"
     ∷ lined [] "refused 10"
     ∷ []

@@ -1,10 +1,12 @@
-// The line of a sheet: the sheet is read, the type of its root simplified and printed. specs/Line.antt says what the line is.
+// The line of a sheet: the sheet is read, the type of its root simplified and printed, with names as the Nix manual writes
+// them. specs/Line.antt says what the line is.
 use display::Displayed;
 use display::display_in;
 use sheet_reading::Reading;
 use sheet_reading::read_sheet;
 use simplify::Simplified;
 use simplify::simplify_in;
+use spelling::Spelling;
 use text_writing::append;
 use text_writing::pieces::write_short;
 use types::Counters;
@@ -71,7 +73,7 @@ fn answer_type(
     let Simplified::Type(n, passes, d) = simplified else {
         return Answer::Refused(simplified.refusal());
     };
-    let displayed = display_in(table, words, starts, d, n, text);
+    let displayed = display_in(table, Spelling::Nix, words, starts, d, n, text);
     let Displayed::Text(length) = displayed else {
         return Answer::Refused(displayed.refusal());
     };

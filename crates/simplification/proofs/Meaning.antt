@@ -1,6 +1,6 @@
 -- A pass keeps the set of a type, if each member that it drops is neutral. A member decides about a mark if it has it (in a union) or lacks it
 -- (in an intersection). A list's set says whether some member does, and so dropping, splicing and first copies are facts on members.
-use Prim.Native.Nat.{ℕ, suc, _<_, Fin, zero-le, suc-le-suc}
+use Prim.Native.Nat.{ℕ, _<_, Fin}
 use mathlib.Core.Path.{_≡_, refl, sym, ap, _∙_, subst, fun-ext}
 use mathlib.Core.Bool.{Bool, true, false}
 use mathlib.Core.List.{List, [], _∷_, map, List·Memᴰ as Mem, List·Memᴰ·head as head, List·Memᴰ·tail as tail, List·Memᴰ·not-nil as not-nil, List·Memᴰ·eq-of-singleton as eq-of-singleton}
@@ -13,6 +13,7 @@ use Rattle.types.specs.Arena.{Arena, at, sound, Ext}
 use Rattle.types.specs.Places.{opposite, child-sign, Place, self}
 use Rattle.types.proofs.Tests.{true-false, same-truth}
 use Rattle.types.proofs.Walks.{step}
+use Rattle.types.proofs.Lists.{map-each}
 use Rattle.types.proofs.Sound.{fold-at, ext-fold}
 use Rattle.recursion.proofs.Interning.{node-is, At}
 use Rattle.recursion.proofs.Members.{index-of, member-at}
@@ -75,12 +76,6 @@ module _ {j : ℕ} (k : Polarity) (f : ℕ → Set j) (x : Fin j) where
   unfolding in-members
   decider-members (d ∷ cs) c (head e) q = deciding-left k (f d x) (in-members k (map f cs) x) (ap (λ (c : ℕ). f c x) (sym e) ∙ q)
   decider-members (d ∷ cs) c (tail i) q = deciding-right k (f d x) (in-members k (map f cs) x) (decider-members cs c i q)
-
-map-same : {A : Type 0} (f : ℕ → A) (ds es : List ℕ) → length es ≡ length ds → ((i : ℕ) → i < length ds → f (getD es i 0) ≡ f (getD ds i 0)) → map f es ≡ map f ds
-map-same f [] [] q h = refl
-map-same f [] (e ∷ es) q h = absurd (omega arith)
-map-same f (d ∷ ds) [] q h = absurd (omega arith)
-map-same f (d ∷ ds) (e ∷ es) q h = λ i. h 0 (suc-le-suc zero-le) i ∷ map-same f ds es (omega arith) (λ j l. h (suc j) (suc-le-suc l)) i
 
 -- a grown arena keeps the sets of its old numbers
 pub set-kept : (r : Reading) (a b : Arena) → Ext a b → (n : ℕ) → n < length a → set-of r b n ≡ set-of r a n
@@ -181,7 +176,7 @@ module _ (r : Reading) (table : ℕ) (a : Arena) (g : sound table a ≡ true) wh
 
   pub meaning : {R : ℕ → Bool} {c m : ℕ} → Becomes a R c m → Safe R c → set-of r a m ≡ set-of r a c
   meaning {R} {c} {m} (other {t = t} ds es ic n q sub im) S =
-      set-at im ∙ ap (set-node r t) (map-same (set-of r a) ds es q (λ i l. meaning (sub i l) (safe-child ds ic S _ (member-at ds i l)))) ∙ sym (set-at ic)
+      set-at im ∙ ap (set-node r t) (map-each (set-of r a) (set-of r a) es ds q (λ i l. meaning (sub i l) (safe-child ds ic S _ (member-at ds i l)))) ∙ sym (set-at ic)
   meaning {R} {c} {m} (list k ds es ic q sub end) S =
       list-meaning R c k ds es ic S q (λ i l. meaning (sub i l) (safe-child ds ic S _ (remaining-from R a ds _ (member-at (remaining R a ds) i l)))) (all-inside R (remaining R a ds) es (q, sub)) m end
   meaning {R} {c} {m} (emptied k ds es ic p q sub e f first) S =

@@ -17,6 +17,7 @@ use Rattle.types.proofs.Nodes.{guess-encode}
 use Rattle.types.proofs.Faults.{children-encode}
 use Rattle.types.proofs.Sound.{at-formed, child-lower}
 use Rattle.names.specs.Table.{split}
+use Rattle.spelling.specs.declared.Spelling.{Spelling}
 use Rattle.node_store.specs.Inner.Stored.{InRange, NodeAt}
 use Rattle.node_store.specs.Inner.Children.{ChildWords}
 use Rattle.node_reading.specs.Inner.{KindAt}
@@ -61,9 +62,9 @@ module _ {w s : List ℕ} {c : Counters} {n i : ℕ} (C : ChildOf w s c n i) whe
         is = λ table a H. p ∙ (λ j. parens (tag (guess-of H j)) i ((K .is table a H ∙ ap (λ (v : ℕ). disc (kind (tag (at a v)))) (q ∙ M .is table a H)) j));
       }
 
-      pub child-opened : {t b : List ℕ} {count : ℕ} {b′ : List ℕ} {end : ℕ} {r : Bool} → Writes b count (before (split t) (tag (guess ws)) i r) b′ end → Encloses w s c n i r → Opens t w s c n i b count b′ end
-      child-opened {t} {b} {count} {b′} {end} W E = record {
-        is = λ table a H. subst (λ (l : List ℕ). Writes b count l b′ end) (λ j. before (split t) (tag (guess-of H j)) i (E .is table a H j)) W;
+      pub child-opened : {sp : Spelling} {t b : List ℕ} {count : ℕ} {b′ : List ℕ} {end : ℕ} {r : Bool} → Writes b count (before sp (split t) (tag (guess ws)) i r) b′ end → Encloses w s c n i r → Opens sp t w s c n i b count b′ end
+      child-opened {sp} {t} {b} {count} {b′} {end} W E = record {
+        is = λ table a H. subst (λ (l : List ℕ). Writes b count l b′ end) (λ j. before sp (split t) (tag (guess-of H j)) i (E .is table a H j)) W;
       }
 
   pub child-closed : {b : List ℕ} {count : ℕ} {b′ : List ℕ} {end : ℕ} {r : Bool} → Writes b count (when r (bytes ")")) b′ end → Encloses w s c n i r → Closes w s c n i b count b′ end

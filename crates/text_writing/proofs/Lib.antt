@@ -1,4 +1,6 @@
 pub mod Appending
+pub mod SpelledNames
 pub mod Tags
 pub mod NodePieces
 pub mod Childhood
+pub mod PlainTypes

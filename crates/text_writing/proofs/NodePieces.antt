@@ -21,6 +21,8 @@ use Rattle.types.specs.Fault.{children-in}
 use Rattle.types.specs.declared.short_text.ShortText.{ShortText}
 use Rattle.types.proofs.Shorts.{text-short}
 use Rattle.names.specs.Table.{Name, split, name-text}
+use Rattle.spelling.specs.Spelling.{spelled}
+use Rattle.spelling.specs.declared.Spelling.{Spelling}
 use Rattle.node_order.proofs.Splits.{body-lent}
 use Rattle.node_store.specs.Inner.Children.{ChildWords}
 use Rattle.node_store.proofs.Offspring.{as-many}
@@ -45,18 +47,19 @@ short-is : {t : ShortText} (s : List ℕ) → t ≡ short-text s → text t ≡ 
 short-is s p = ap text p ∙ text-short s
 
 -- ---- a name of the table, and what stands between a field's name and its type
-pub writes-name : (t : List ℕ) (w : ℕ) {k : ℕ} {x : List ℕ} → x ≡ name-text t k → k ≡ field-name w → {b : List ℕ} {c : ℕ} {b′ : List ℕ} {e : ℕ} → Writes b c x b′ e → Writes b c (name-text t (field-name w)) b′ e
-writes-name t w p q W = writes-as (p ∙ ap (name-text t) q) W
+pub writes-name : (sp : Spelling) (t : List ℕ) (w : ℕ) {k : ℕ} {x : List ℕ} → x ≡ name-text t k → k ≡ field-name w → {b : List ℕ} {c : ℕ} {b′ : List ℕ} {e : ℕ}
+    → Writes b c (spelled sp x) b′ e → Writes b c (spelled sp (name-text t (field-name w))) b′ e
+writes-name sp t w p q W = writes-as (ap (spelled sp) (p ∙ ap (name-text t) q)) W
 
-pub writes-field : (t : List ℕ) (w : ℕ) {so : Bool} → so ≡ field-optional w → {b : List ℕ} {c : ℕ} {b₁ : List ℕ} {m : ℕ} {b₂ : List ℕ} {n : ℕ} {b₃ : List ℕ} {e : ℕ}
-    → Writes b c (name-text t (field-name w)) b₁ m → Writes b₁ m (when so (bytes "?")) b₂ n → Writes b₂ n (bytes ": ") b₃ e → Writes b c (field-text (split t) (field-optional w) (field-name w)) b₃ e
+pub writes-field : (sp : Spelling) (t : List ℕ) (w : ℕ) {so : Bool} → so ≡ field-optional w → {b : List ℕ} {c : ℕ} {b₁ : List ℕ} {m : ℕ} {b₂ : List ℕ} {n : ℕ} {b₃ : List ℕ} {e : ℕ}
+    → Writes b c (spelled sp (name-text t (field-name w))) b₁ m → Writes b₁ m (when so (bytes "?")) b₂ n → Writes b₂ n (bytes ": ") b₃ e → Writes b c (field-text sp (split t) (field-optional w) (field-name w)) b₃ e
 unfolding field-text name-text
-writes-field t w p W U X = writes-three W (writes-as (ap (λ (s : Bool). when s (bytes "?")) p) U) X
+writes-field sp t w p W U X = writes-three W (writes-as (ap (λ (s : Bool). when s (bytes "?")) p) U) X
 
 -- ---- pieces of one kind
 module _ (k : Kind) (ws : List ℕ) {n : ℕ} (p : n ≡ head-kind (getD ws 0 0)) (q : n ≡ disc k) {b : List ℕ} {c : ℕ} {b′ : List ℕ} {e : ℕ} where
-  pub begins : (ns : List Name) → Writes b c (beginning ns (said k ws)) b′ e → Writes b c (beginning ns (tag (guess ws))) b′ e
-  begins ns W = writes-as (ap (beginning ns) (sym (tag-said k ws p q))) W
+  pub begins : (sp : Spelling) (ns : List Name) → Writes b c (beginning sp ns (said k ws)) b′ e → Writes b c (beginning sp ns (tag (guess ws))) b′ e
+  begins sp ns W = writes-as (ap (beginning sp ns) (sym (tag-said k ws p q))) W
 
   pub separates : (i : ℕ) → Writes b c (between (separator (said k ws)) i) b′ e → Writes b c (between (separator (tag (guess ws))) i) b′ e
   separates i W = writes-as (ap (λ (t : Tag). between (separator t) i) (sym (tag-said k ws p q))) W
@@ -74,31 +77,31 @@ first-of : (ws : List ℕ) {x : ℕ} → x ≡ getD (take (length ws - 1) (drop 
 first-of ws p = p ∙ ap (λ (d : List ℕ). getD d 0 0) (body-lent ws)
 
 module _ (ws : List ℕ) {n : ℕ} (p : n ≡ head-kind (getD ws 0 0)) {x : ℕ} (w : x ≡ getD (take (length ws - 1) (drop 1 ws)) 0 0) {b : List ℕ} {c : ℕ} {b′ : List ℕ} {e : ℕ} where
-  pub begins-primitive : n ≡ 2 → (ns : List Name) {t : ShortText} → t ≡ short-text (primitive-text x) → Writes b c (text t) b′ e → Writes b c (beginning ns (tag (guess ws))) b′ e
+  pub begins-primitive : n ≡ 2 → (sp : Spelling) (ns : List Name) {t : ShortText} → t ≡ short-text (primitive-text x) → Writes b c (text t) b′ e → Writes b c (beginning sp ns (tag (guess ws))) b′ e
   unfolding beginning tag-of
-  begins-primitive q ns r W = begins kinds.primitive ws p q ns (writes-as (short-is (primitive-text x) r ∙ ap primitive-text (first-of ws w)) W)
+  begins-primitive q sp ns r W = begins kinds.primitive ws p q sp ns (writes-as (short-is (primitive-text x) r ∙ ap primitive-text (first-of ws w)) W)
 
-  pub begins-var : n ≡ 3 → (ns : List Name) {t : ShortText} → t ≡ short-text (tyvar-name x) → Writes b c (text t) b′ e → Writes b c (beginning ns (tag (guess ws))) b′ e
+  pub begins-var : n ≡ 3 → (sp : Spelling) (ns : List Name) {t : ShortText} → t ≡ short-text (tyvar-name x) → Writes b c (text t) b′ e → Writes b c (beginning sp ns (tag (guess ws))) b′ e
   unfolding beginning tag-of
-  begins-var q ns r W = begins kinds.ty-var ws p q ns (writes-as (short-is (tyvar-name x) r ∙ ap tyvar-name (first-of ws w)) W)
+  begins-var q sp ns r W = begins kinds.ty-var ws p q sp ns (writes-as (short-is (tyvar-name x) r ∙ ap tyvar-name (first-of ws w)) W)
 
-  pub begins-name : n ≡ 9 → (t : List ℕ) → Writes b c (name-text t (field-name x)) b′ e → Writes b c (beginning (split t) (tag (guess ws))) b′ e
+  pub begins-name : n ≡ 9 → (sp : Spelling) (t : List ℕ) → Writes b c (spelled sp (name-text t (field-name x))) b′ e → Writes b c (beginning sp (split t) (tag (guess ws))) b′ e
   unfolding beginning tag-of name-text
-  begins-name q t W = begins kinds.named ws p q (split t) (writes-as (ap (λ (y : ℕ). name-text t (field-name y)) (first-of ws w)) W)
+  begins-name q sp t W = begins kinds.named ws p q sp (split t) (writes-as (ap (λ (y : ℕ). spelled sp (name-text t (field-name y))) (first-of ws w)) W)
 
 -- ---- the kinds that have no such piece
-no-beginning : (ns : List Name) (t : Tag) {n : ℕ} → n ≡ disc (kind t) → (n ≡ 0 → ⊥) → (n ≡ 1 → ⊥) → (n ≡ 2 → ⊥) → (n ≡ 3 → ⊥) → (n ≡ 4 → ⊥) → (n ≡ 6 → ⊥) → (n ≡ 9 → ⊥) → (n ≡ 10 → ⊥) → beginning ns t ≡ []
+no-beginning : (sp : Spelling) (ns : List Name) (t : Tag) {n : ℕ} → n ≡ disc (kind t) → (n ≡ 0 → ⊥) → (n ≡ 1 → ⊥) → (n ≡ 2 → ⊥) → (n ≡ 3 → ⊥) → (n ≡ 4 → ⊥) → (n ≡ 6 → ⊥) → (n ≡ 9 → ⊥) → (n ≡ 10 → ⊥) → beginning sp ns t ≡ []
 unfolding beginning
-no-beginning ns (members k) e f0 f1 f2 f3 f4 f6 f9 f10 = refl
-no-beginning ns (bound positive) e f0 f1 f2 f3 f4 f6 f9 f10 = absurd (f0 e)
-no-beginning ns (bound negative) e f0 f1 f2 f3 f4 f6 f9 f10 = absurd (f1 e)
-no-beginning ns (var v) e f0 f1 f2 f3 f4 f6 f9 f10 = absurd (f3 e)
-no-beginning ns neg e f0 f1 f2 f3 f4 f6 f9 f10 = absurd (f10 e)
-no-beginning ns (form (primitive c)) e f0 f1 f2 f3 f4 f6 f9 f10 = absurd (f2 e)
-no-beginning ns (form list) e f0 f1 f2 f3 f4 f6 f9 f10 = absurd (f4 e)
-no-beginning ns (form lambda) e f0 f1 f2 f3 f4 f6 f9 f10 = refl
-no-beginning ns (form (attrset fs d o)) e f0 f1 f2 f3 f4 f6 f9 f10 = absurd (f6 e)
-no-beginning ns (form (named m)) e f0 f1 f2 f3 f4 f6 f9 f10 = absurd (f9 e)
+no-beginning sp ns (members k) e f0 f1 f2 f3 f4 f6 f9 f10 = refl
+no-beginning sp ns (bound positive) e f0 f1 f2 f3 f4 f6 f9 f10 = absurd (f0 e)
+no-beginning sp ns (bound negative) e f0 f1 f2 f3 f4 f6 f9 f10 = absurd (f1 e)
+no-beginning sp ns (var v) e f0 f1 f2 f3 f4 f6 f9 f10 = absurd (f3 e)
+no-beginning sp ns neg e f0 f1 f2 f3 f4 f6 f9 f10 = absurd (f10 e)
+no-beginning sp ns (form (primitive c)) e f0 f1 f2 f3 f4 f6 f9 f10 = absurd (f2 e)
+no-beginning sp ns (form list) e f0 f1 f2 f3 f4 f6 f9 f10 = absurd (f4 e)
+no-beginning sp ns (form lambda) e f0 f1 f2 f3 f4 f6 f9 f10 = refl
+no-beginning sp ns (form (attrset fs d o)) e f0 f1 f2 f3 f4 f6 f9 f10 = absurd (f6 e)
+no-beginning sp ns (form (named m)) e f0 f1 f2 f3 f4 f6 f9 f10 = absurd (f9 e)
 
 none-between : (i : ℕ) → between [] i ≡ []
 unfolding between
@@ -118,17 +121,17 @@ no-separator (form lambda) e f5 f6 f7 f8 = absurd (f5 e)
 no-separator (form (attrset fs d o)) e f5 f6 f7 f8 = absurd (f6 e)
 no-separator (form (named m)) e f5 f6 f7 f8 = refl
 
-no-label : (ns : List Name) (t : Tag) (i : ℕ) {n : ℕ} → n ≡ disc (kind t) → (n ≡ 6 → ⊥) → label ns t i ≡ []
+no-label : (sp : Spelling) (ns : List Name) (t : Tag) (i : ℕ) {n : ℕ} → n ≡ disc (kind t) → (n ≡ 6 → ⊥) → label sp ns t i ≡ []
 unfolding label
-no-label ns (members k) i e f = refl
-no-label ns (bound k) i e f = refl
-no-label ns (var v) i e f = refl
-no-label ns neg i e f = refl
-no-label ns (form (primitive c)) i e f = refl
-no-label ns (form list) i e f = refl
-no-label ns (form lambda) i e f = refl
-no-label ns (form (attrset fs d o)) i e f = absurd (f e)
-no-label ns (form (named m)) i e f = refl
+no-label sp ns (members k) i e f = refl
+no-label sp ns (bound k) i e f = refl
+no-label sp ns (var v) i e f = refl
+no-label sp ns neg i e f = refl
+no-label sp ns (form (primitive c)) i e f = refl
+no-label sp ns (form list) i e f = refl
+no-label sp ns (form lambda) i e f = refl
+no-label sp ns (form (attrset fs d o)) i e f = absurd (f e)
+no-label sp ns (form (named m)) i e f = refl
 
 no-ending : (t : Tag) (m : ℕ) {n : ℕ} → n ≡ disc (kind t) → (n ≡ 4 → ⊥) → (n ≡ 6 → ⊥) → ending t m ≡ []
 unfolding ending
@@ -156,14 +159,14 @@ all-shown (form (named m)) cs e f = absurd (f e)
 
 module _ {ws : List ℕ} (F : IsFormed ws) {n : ℕ} (p : n ≡ head-kind (getD ws 0 0)) where
   module _ {b : List ℕ} {c : ℕ} where
-    pub begins-not : (ns : List Name) → (n ≡ 0 → ⊥) → (n ≡ 1 → ⊥) → (n ≡ 2 → ⊥) → (n ≡ 3 → ⊥) → (n ≡ 4 → ⊥) → (n ≡ 6 → ⊥) → (n ≡ 9 → ⊥) → (n ≡ 10 → ⊥) → Writes b c (beginning ns (tag (guess ws))) b c
-    begins-not ns f0 f1 f2 f3 f4 f6 f9 f10 = writes-nothing (no-beginning ns (tag (guess ws)) (kind-said F p) f0 f1 f2 f3 f4 f6 f9 f10)
+    pub begins-not : (sp : Spelling) (ns : List Name) → (n ≡ 0 → ⊥) → (n ≡ 1 → ⊥) → (n ≡ 2 → ⊥) → (n ≡ 3 → ⊥) → (n ≡ 4 → ⊥) → (n ≡ 6 → ⊥) → (n ≡ 9 → ⊥) → (n ≡ 10 → ⊥) → Writes b c (beginning sp ns (tag (guess ws))) b c
+    begins-not sp ns f0 f1 f2 f3 f4 f6 f9 f10 = writes-nothing (no-beginning sp ns (tag (guess ws)) (kind-said F p) f0 f1 f2 f3 f4 f6 f9 f10)
 
     pub separates-not : (i : ℕ) → (n ≡ 5 → ⊥) → (n ≡ 6 → ⊥) → (n ≡ 7 → ⊥) → (n ≡ 8 → ⊥) → Writes b c (between (separator (tag (guess ws))) i) b c
     separates-not i f5 f6 f7 f8 = writes-nothing (ap (λ (x : List ℕ). between x i) (no-separator (tag (guess ws)) (kind-said F p) f5 f6 f7 f8) ∙ none-between i)
 
-    pub labels-not : (ns : List Name) (i : ℕ) → (n ≡ 6 → ⊥) → Writes b c (label ns (tag (guess ws)) i) b c
-    labels-not ns i f = writes-nothing (no-label ns (tag (guess ws)) i (kind-said F p) f)
+    pub labels-not : (sp : Spelling) (ns : List Name) (i : ℕ) → (n ≡ 6 → ⊥) → Writes b c (label sp ns (tag (guess ws)) i) b c
+    labels-not sp ns i f = writes-nothing (no-label sp ns (tag (guess ws)) i (kind-said F p) f)
 
     pub ends-not : (m : ℕ) → (n ≡ 4 → ⊥) → (n ≡ 6 → ⊥) → Writes b c (ending (tag (guess ws)) m) b c
     ends-not m f4 f6 = writes-nothing (no-ending (tag (guess ws)) m (kind-said F p) f4 f6)
@@ -215,17 +218,17 @@ module _ {ws : List ℕ} (F : IsFormed ws) {n : ℕ} (p : n ≡ head-kind (getD 
   parens-body f = no-parens (tag (guess ws)) i k (kind-said F p) f7 f8 f10 (λ e z. f z)
 
 -- ---- the fields of a set
-label-in : (ns : List Name) (l : List ℕ) (i : ℕ) → i < length l → field-text ns (field-optional (getD l i 0)) (field-name (getD l i 0)) ≡ field-label ns (map field-of l) i
+label-in : (sp : Spelling) (ns : List Name) (l : List ℕ) (i : ℕ) → i < length l → field-text sp ns (field-optional (getD l i 0)) (field-name (getD l i 0)) ≡ field-label sp ns (map field-of l) i
 unfolding field-label
-label-in ns [] i h = absurd (omega arith)
-label-in ns (w ∷ l) zero h = refl
-label-in ns (w ∷ l) (suc i) h = label-in ns l i (le-of-suc-le-suc h)
+label-in sp ns [] i h = absurd (omega arith)
+label-in sp ns (w ∷ l) zero h = refl
+label-in sp ns (w ∷ l) (suc i) h = label-in sp ns l i (le-of-suc-le-suc h)
 
-label-out : (ns : List Name) (l : List ℕ) (i : ℕ) → length l ≤ i → bytes "_: " ≡ field-label ns (map field-of l) i
+label-out : (sp : Spelling) (ns : List Name) (l : List ℕ) (i : ℕ) → length l ≤ i → bytes "_: " ≡ field-label sp ns (map field-of l) i
 unfolding field-label
-label-out ns [] i h = refl
-label-out ns (w ∷ l) zero h = absurd (omega arith)
-label-out ns (w ∷ l) (suc i) h = label-out ns l i (le-of-suc-le-suc h)
+label-out sp ns [] i h = refl
+label-out sp ns (w ∷ l) zero h = absurd (omega arith)
+label-out sp ns (w ∷ l) (suc i) h = label-out sp ns l i (le-of-suc-le-suc h)
 
 -- how many body words are fields, and which
 module _ (h : ℕ) (d : List ℕ) {m : ℕ} (f : m ≡ length d - bit (head-dynamic h)) (i : ℕ) where
@@ -235,23 +238,23 @@ module _ (h : ℕ) (d : List ℕ) {m : ℕ} (f : m ≡ length d - bit (head-dyna
   pub field-in : i < m → i < length d
   field-in l = omega (arith, f, l)
 
-  module _ (ns : List Name) {b : List ℕ} {c : ℕ} {b′ : List ℕ} {e : ℕ} where
-    pub labels-field : i < m → Writes b c (field-text ns (field-optional (getD d i 0)) (field-name (getD d i 0))) b′ e → Writes b c (label ns (tag-of kinds.attr-set (head-open h) (head-dynamic h) d) i) b′ e
+  module _ (sp : Spelling) (ns : List Name) {b : List ℕ} {c : ℕ} {b′ : List ℕ} {e : ℕ} where
+    pub labels-field : i < m → Writes b c (field-text sp ns (field-optional (getD d i 0)) (field-name (getD d i 0))) b′ e → Writes b c (label sp ns (tag-of kinds.attr-set (head-open h) (head-dynamic h) d) i) b′ e
     unfolding label tag-of
     labels-field l W =
         let k : i < length d - bit (head-dynamic h) = omega (arith, f, l) in
         let r : getD d i 0 ≡ getD (take (length d - bit (head-dynamic h)) d) i 0 = sym (getD-take (length d - bit (head-dynamic h)) d i 0 k) in
-        writes-as (ap (λ (y : ℕ). field-text ns (field-optional y) (field-name y)) r ∙ label-in ns (take (length d - bit (head-dynamic h)) d) i (omega (arith, many-fields, k))) W
+        writes-as (ap (λ (y : ℕ). field-text sp ns (field-optional y) (field-name y)) r ∙ label-in sp ns (take (length d - bit (head-dynamic h)) d) i (omega (arith, many-fields, k))) W
 
-    pub labels-dynamic : m ≤ i → Writes b c (bytes "_: ") b′ e → Writes b c (label ns (tag-of kinds.attr-set (head-open h) (head-dynamic h) d) i) b′ e
+    pub labels-dynamic : m ≤ i → Writes b c (bytes "_: ") b′ e → Writes b c (label sp ns (tag-of kinds.attr-set (head-open h) (head-dynamic h) d) i) b′ e
     unfolding label tag-of
-    labels-dynamic l W = writes-as (label-out ns (take (length d - bit (head-dynamic h)) d) i (omega (arith, many-fields, f, l))) W
+    labels-dynamic l W = writes-as (label-out sp ns (take (length d - bit (head-dynamic h)) d) i (omega (arith, many-fields, f, l))) W
 
-pub labels-set : (ws : List ℕ) {n : ℕ} → n ≡ head-kind (getD ws 0 0) → n ≡ 6 → (ns : List Name) (i : ℕ) {b : List ℕ} {c : ℕ} {b′ : List ℕ} {e : ℕ}
-    → Writes b c (label ns (tag-of kinds.attr-set (head-open (getD ws 0 0)) (head-dynamic (getD ws 0 0)) (take (length ws - 1) (drop 1 ws))) i) b′ e → Writes b c (label ns (tag (guess ws)) i) b′ e
-labels-set ws p q ns i W =
+pub labels-set : (ws : List ℕ) {n : ℕ} → n ≡ head-kind (getD ws 0 0) → n ≡ 6 → (sp : Spelling) (ns : List Name) (i : ℕ) {b : List ℕ} {c : ℕ} {b′ : List ℕ} {e : ℕ}
+    → Writes b c (label sp ns (tag-of kinds.attr-set (head-open (getD ws 0 0)) (head-dynamic (getD ws 0 0)) (take (length ws - 1) (drop 1 ws))) i) b′ e → Writes b c (label sp ns (tag (guess ws)) i) b′ e
+labels-set ws p q sp ns i W =
     writes-as
-    (ap (λ (d : List ℕ). label ns (tag-of kinds.attr-set (head-open (getD ws 0 0)) (head-dynamic (getD ws 0 0)) d) i) (body-lent ws) ∙ ap (λ (t : Tag). label ns t i) (sym (tag-said kinds.attr-set ws p q)))
+    (ap (λ (d : List ℕ). label sp ns (tag-of kinds.attr-set (head-open (getD ws 0 0)) (head-dynamic (getD ws 0 0)) d) i) (body-lent ws) ∙ ap (λ (t : Tag). label sp ns t i) (sym (tag-said kinds.attr-set ws p q)))
     W
 
 -- ---- how many words of a set are fields

@@ -1,5 +1,5 @@
 -- The text of a type, as the Rust's `write_ty` writes it (document 001): what begins a node's text, what stands before each child, which
--- children stand in parentheses, what ends it.
+-- children stand in parentheses, what ends it. How names are spelled is a parameter (02, A1): bare, it is the Rust's text.
 use Prim.Native.Nat.{ℕ, zero, suc}
 use mathlib.Core.Bool.{Bool, true, false}
 use mathlib.Core.List.{List, [], _∷_, _++_}
@@ -13,6 +13,8 @@ use Rattle.types.specs.Node.{positive, negative, Field, field, primitive, list,
 use Rattle.types.specs.Node.{kind}
 use Rattle.types.specs.Arena.{Arena, fold}
 use Rattle.names.specs.Table.{Name}
+use Rattle.spelling.specs.Spelling.{spelled}
+use Rattle.spelling.specs.declared.Spelling.{Spelling}
 
 -- a text that is written only under a condition
 unfoldable pub when : Bool → List ℕ → List ℕ
@@ -25,18 +27,18 @@ between x zero = []
 between x (suc i) = x
 
 -- what begins the text of a node; for a node without children it is the whole text, and so for a named type, whose child isn't printed
-unfoldable pub beginning : List Name → Tag → List ℕ
-unfolding tyvar-name primitive-text
-beginning ns (members k) = []
-beginning ns (bound positive) = bytes "never"
-beginning ns (bound negative) = bytes "any"
-beginning ns (var v) = tyvar-name v
-beginning ns neg = bytes "~"
-beginning ns (form (primitive c)) = primitive-text c
-beginning ns (form list) = bytes "["
-beginning ns (form lambda) = []
-beginning ns (form (attrset fs d o)) = bytes "{ "
-beginning ns (form (named n)) = getD ns n []
+unfoldable pub beginning : Spelling → List Name → Tag → List ℕ
+unfolding tyvar-name primitive-text spelled
+beginning sp ns (members k) = []
+beginning sp ns (bound positive) = bytes "never"
+beginning sp ns (bound negative) = bytes "any"
+beginning sp ns (var v) = tyvar-name v
+beginning sp ns neg = bytes "~"
+beginning sp ns (form (primitive c)) = primitive-text c
+beginning sp ns (form list) = bytes "["
+beginning sp ns (form lambda) = []
+beginning sp ns (form (attrset fs d o)) = bytes "{ "
+beginning sp ns (form (named n)) = spelled sp (getD ns n [])
 
 -- what separates the children
 unfoldable pub separator : Tag → List ℕ
@@ -52,29 +54,29 @@ separator (form (attrset fs d o)) = bytes ", "
 separator (form (named n)) = []
 
 -- a field's name, `?` if the field is optional, `:`
-unfoldable pub field-text : List Name → Bool → ℕ → List ℕ
-unfolding when
-field-text ns o n = getD ns n [] ++ when o (bytes "?") ++ bytes ": "
+unfoldable pub field-text : Spelling → List Name → Bool → ℕ → List ℕ
+unfolding when spelled
+field-text sp ns o n = spelled sp (getD ns n []) ++ when o (bytes "?") ++ bytes ": "
 
 -- what names child i of a set: its field, or that it is the dynamic part, which stands behind the fields
-unfoldable pub field-label : List Name → List Field → ℕ → List ℕ
+unfoldable pub field-label : Spelling → List Name → List Field → ℕ → List ℕ
 unfolding field-text
-field-label ns [] i = bytes "_: "
-field-label ns (field o n ∷ fs) zero = field-text ns o n
-field-label ns (f ∷ fs) (suc i) = field-label ns fs i
+field-label sp ns [] i = bytes "_: "
+field-label sp ns (field o n ∷ fs) zero = field-text sp ns o n
+field-label sp ns (f ∷ fs) (suc i) = field-label sp ns fs i
 
 -- what names child i: a set's children only are named
-unfoldable pub label : List Name → Tag → ℕ → List ℕ
+unfoldable pub label : Spelling → List Name → Tag → ℕ → List ℕ
 unfolding field-label
-label ns (members k) i = []
-label ns (bound k) i = []
-label ns (var v) i = []
-label ns neg i = []
-label ns (form (primitive c)) i = []
-label ns (form list) i = []
-label ns (form lambda) i = []
-label ns (form (attrset fs d o)) i = field-label ns fs i
-label ns (form (named n)) i = []
+label sp ns (members k) i = []
+label sp ns (bound k) i = []
+label sp ns (var v) i = []
+label sp ns neg i = []
+label sp ns (form (primitive c)) i = []
+label sp ns (form list) i = []
+label sp ns (form lambda) i = []
+label sp ns (form (attrset fs d o)) i = field-label sp ns fs i
+label sp ns (form (named n)) i = []
 
 -- does child i stand in parentheses, if it is of this kind? (document 002)
 unfoldable pub parens : Tag → ℕ → ℕ → Bool
@@ -127,27 +129,30 @@ pub record Printed : Type 0 where
   pub text : List ℕ
 
 -- what stands before child i, in parentheses or not
-unfoldable pub before : List Name → Tag → ℕ → Bool → List ℕ
+unfoldable pub before : Spelling → List Name → Tag → ℕ → Bool → List ℕ
 unfolding when between separator label
-before ns t i inside = between (separator t) i ++ label ns t i ++ when inside (bytes "(")
+before sp ns t i inside = between (separator t) i ++ label sp ns t i ++ when inside (bytes "(")
 
 -- child i with what stands round it
-unfoldable pub child-text : List Name → Tag → ℕ → Printed → List ℕ
+unfoldable pub child-text : Spelling → List Name → Tag → ℕ → Printed → List ℕ
 unfolding before when parens
-child-text ns t i p = before ns t i (parens t i (p .number)) ++ p .text ++ when (parens t i (p .number)) (bytes ")")
+child-text sp ns t i p = before sp ns t i (parens t i (p .number)) ++ p .text ++ when (parens t i (p .number)) (bytes ")")
 
 -- child i and those after it
-unfoldable pub child-texts : List Name → Tag → ℕ → List Printed → List ℕ
+unfoldable pub child-texts : Spelling → List Name → Tag → ℕ → List Printed → List ℕ
 unfolding child-text
-child-texts ns t i [] = []
-child-texts ns t i (p ∷ ps) = child-text ns t i p ++ child-texts ns t (suc i) ps
+child-texts sp ns t i [] = []
+child-texts sp ns t i (p ∷ ps) = child-text sp ns t i p ++ child-texts sp ns t (suc i) ps
 
 -- a node from its children in print
-unfoldable pub node-text : List Name → Tag → List Printed → Printed
+unfoldable pub node-text : Spelling → List Name → Tag → List Printed → Printed
 unfolding beginning child-texts shown ending
-node-text ns t ps = record { number = disc (kind t); text = beginning ns t ++ child-texts ns t 0 (shown t ps) ++ ending t (length ps) }
+node-text sp ns t ps = record {
+  number = disc (kind t);
+  text = beginning sp ns t ++ child-texts sp ns t 0 (shown t ps) ++ ending t (length ps);
+}
 
 -- the text of the type of a node, under a table with these names
-unfoldable pub type-text : List Name → Arena → ℕ → List ℕ
+unfoldable pub type-text : Spelling → List Name → Arena → ℕ → List ℕ
 unfolding fold node-text
-type-text ns a n = fold (node-text ns) a n .text
+type-text sp ns a n = fold (node-text sp ns) a n .text

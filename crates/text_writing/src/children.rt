@@ -5,6 +5,7 @@ use crate::pieces::write_before;
 use node_reading::nodes::kind_at;
 use node_store::children::child_words;
 use node_store::stored::node_at;
+use spelling::Spelling;
 use types::Counters;
 use types::arc_ty::child;
 use types::arc_ty::wide;
@@ -31,6 +32,7 @@ fn enclosed(words: &[u32], starts: &[u32], c: Counters, n: u32, i: usize) -> boo
 // Writes what stands before it.
 pub fn open_child(
     table: &[u8],
+    spelling: Spelling,
     words: &[u32],
     starts: &[u32],
     c: Counters,
@@ -40,12 +42,12 @@ pub fn open_child(
     count: usize,
 ) -> usize
     requires { ⌜ ChildOf (now words) (now starts) c n i ⌝ }
-    ensures { λ r. ⌜ Opens (now (table .entry)) (now (words .entry)) (now (starts .entry)) c n i (now (text .entry)) count
+    ensures { λ r. ⌜ Opens spelling (now (table .entry)) (now (words .entry)) (now (starts .entry)) c n i (now (text .entry)) count
         (now (text .exit)) r ⌝ }
 {
     let inside = enclosed(words, starts, c, n, i);
     let node = node_at(words, starts, c, wide(n));
-    write_before(table, node, i, inside, text, count)
+    write_before(table, spelling, node, i, inside, text, count)
 }
 
 // Writes what stands behind it.

@@ -3,6 +3,7 @@
 // lent bytes says that the text didn't fit; nothing is written from then on.
 pub mod children;
 pub mod pieces;
+pub mod spelled;
 
 ghost use Rattle.text_writing.specs.Text.{when, between};
 ghost use Rattle.text_writing.specs.Inner.Writes.{Writes};

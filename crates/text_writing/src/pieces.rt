@@ -2,10 +2,12 @@
 use crate::append;
 use crate::append_after;
 use crate::append_if;
+use crate::spelled::write_spelled;
 use names::name_at;
 use node_reading::nodes::kind_in;
 use node_store::children::child_words;
 use primitive::PrimitiveTy;
+use spelling::Spelling;
 use types::arc_ty::Head;
 use types::arc_ty::needs_parens_in_intersection_member;
 use types::arc_ty::needs_parens_in_lambda_param;
@@ -24,6 +26,7 @@ ghost use Rattle.types.specs.Kind.{attr-set};
 ghost use Rattle.types.specs.Node.{tag, tag-of, guess};
 ghost use Rattle.types.specs.Fault.{children-in};
 ghost use Rattle.names.specs.Table.{split, name-text};
+ghost use Rattle.spelling.specs.Spelling.{spelled};
 ghost use Rattle.text_writing.specs.Text.{between, beginning, separator, field-text, label, parens, before, set-ending, ending};
 ghost use Rattle.text_writing.specs.Text.{shown};
 ghost use Rattle.text_writing.specs.Inner.Writes.{Writes, IsFormed};
@@ -49,16 +52,23 @@ pub fn write_short(text: &mut [u8], count: usize, short: ShortText) -> usize
 }
 
 // The name that a field word carries.
-fn write_name(table: &[u8], text: &mut [u8], count: usize, word: u32) -> usize
-    ensures { λ r. ⌜ Writes (now (text .entry)) count (name-text (now (table .entry)) (field-name word)) (now (text .exit)) r ⌝ }
+fn write_name(table: &[u8], spelling: Spelling, word: u32, text: &mut [u8], count: usize) -> usize
+    ensures { λ r. ⌜ Writes (now (text .entry)) count (spelled spelling (name-text (now (table .entry)) (field-name word)))
+        (now (text .exit)) r ⌝ }
 {
-    append(text, count, name_at(table, field_name(word)))
+    write_spelled(spelling, name_at(table, field_name(word)), text, count)
 }
 
 // What begins a node's text.
-pub fn write_beginning(table: &[u8], node: &[u32], text: &mut [u8], count: usize) -> usize
+pub fn write_beginning(
+    table: &[u8],
+    spelling: Spelling,
+    node: &[u32],
+    text: &mut [u8],
+    count: usize,
+) -> usize
     requires { ⌜ IsFormed (now node) ⌝ }
-    ensures { λ r. ⌜ Writes (now (text .entry)) count (beginning (split (now (table .entry))) (tag (guess (now (node .entry)))))
+    ensures { λ r. ⌜ Writes (now (text .entry)) count (beginning spelling (split (now (table .entry))) (tag (guess (now (node .entry)))))
         (now (text .exit)) r ⌝ }
 {
     let kind = kind_in(node);
@@ -85,7 +95,7 @@ pub fn write_beginning(table: &[u8], node: &[u32], text: &mut [u8], count: usize
         return append(text, count, b"{ ");
     }
     if kind == Head::NAMED {
-        return write_name(table, text, count, first_word(body));
+        return write_name(table, spelling, first_word(body), text, count);
     }
     if kind == Head::NEG {
         return append(text, count, b"~");
@@ -128,11 +138,11 @@ fn field_count(head: Head, body: &[u32]) -> usize
 }
 
 // The name in a field word, with what stands between it and the field's type.
-fn write_field(table: &[u8], word: u32, text: &mut [u8], count: usize) -> usize
-    ensures { λ r. ⌜ Writes (now (text .entry)) count (field-text (split (now (table .entry))) (field-optional word) (field-name word))
-        (now (text .exit)) r ⌝ }
+fn write_field(table: &[u8], spelling: Spelling, word: u32, text: &mut [u8], count: usize) -> usize
+    ensures { λ r. ⌜ Writes (now (text .entry)) count
+        (field-text spelling (split (now (table .entry))) (field-optional word) (field-name word)) (now (text .exit)) r ⌝ }
 {
-    let named = write_name(table, text, count, word);
+    let named = write_name(table, spelling, word, text, count);
     let marked = append_if(text, named, field_optional(word), b"?");
     append(text, marked, b": ")
 }
@@ -140,30 +150,38 @@ fn write_field(table: &[u8], word: u32, text: &mut [u8], count: usize) -> usize
 // What names child i of a set.
 fn write_set_label(
     table: &[u8],
+    spelling: Spelling,
     head: Head,
     body: &[u32],
     i: usize,
     text: &mut [u8],
     count: usize,
 ) -> usize
-    ensures { λ r. ⌜ Writes (now (text .entry)) count (label (split (now (table .entry)))
+    ensures { λ r. ⌜ Writes (now (text .entry)) count (label spelling (split (now (table .entry)))
         (tag-of attr-set (head-open (head .word)) (head-dynamic (head .word)) (now (body .entry))) i) (now (text .exit)) r ⌝ }
 {
     if i < field_count(head, body) {
-        return write_field(table, body[i], text, count);
+        return write_field(table, spelling, body[i], text, count);
     }
     append(text, count, b"_: ")
 }
 
 // What names child i.
-fn write_label(table: &[u8], node: &[u32], i: usize, text: &mut [u8], count: usize) -> usize
+fn write_label(
+    table: &[u8],
+    spelling: Spelling,
+    node: &[u32],
+    i: usize,
+    text: &mut [u8],
+    count: usize,
+) -> usize
     requires { ⌜ IsFormed (now node) ⌝ }
-    ensures { λ r. ⌜ Writes (now (text .entry)) count (label (split (now (table .entry))) (tag (guess (now (node .entry)))) i)
+    ensures { λ r. ⌜ Writes (now (text .entry)) count (label spelling (split (now (table .entry))) (tag (guess (now (node .entry)))) i)
         (now (text .exit)) r ⌝ }
 {
     if kind_in(node) == Head::ATTR_SET {
         let head = Head { word: node[0] };
-        return write_set_label(table, head, &node[1..], i, text, count);
+        return write_set_label(table, spelling, head, &node[1..], i, text, count);
     }
     count
 }
@@ -194,6 +212,7 @@ pub fn in_parens(node: &[u32], i: usize, kind: u32) -> bool
 // What stands before child i, which stands in parentheses or not.
 pub fn write_before(
     table: &[u8],
+    spelling: Spelling,
     node: &[u32],
     i: usize,
     inside: bool,
@@ -201,11 +220,11 @@ pub fn write_before(
     count: usize,
 ) -> usize
     requires { ⌜ IsFormed (now node) ⌝ }
-    ensures { λ r. ⌜ Writes (now (text .entry)) count (before (split (now (table .entry))) (tag (guess (now (node .entry)))) i inside)
-        (now (text .exit)) r ⌝ }
+    ensures { λ r. ⌜ Writes (now (text .entry)) count
+        (before spelling (split (now (table .entry))) (tag (guess (now (node .entry)))) i inside) (now (text .exit)) r ⌝ }
 {
     let separated = write_separator(node, i, text, count);
-    let labelled = write_label(table, node, i, text, separated);
+    let labelled = write_label(table, spelling, node, i, text, separated);
     append_if(text, labelled, inside, b"(")
 }
 

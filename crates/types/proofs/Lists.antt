@@ -63,3 +63,10 @@ padded-set n p v h =
 
 pub length-padded : (n : ℕ) (p : List ℕ) → length p ≤ n → length (padded n p) ≡ n
 length-padded n p h = simp (length-append, length-replicate) (omega arith)
+
+-- ---- what is read off two lists, number by number
+pub map-each {ℓ} : {Y : Type ℓ} (F G : ℕ → Y) (ms cs : List ℕ) → length ms ≡ length cs → ((i : ℕ) → i < length cs → F (getD ms i 0) ≡ G (getD cs i 0)) → map F ms ≡ map G cs
+map-each F G [] [] q h = refl
+map-each F G [] (c ∷ cs) q h = absurd (omega arith)
+map-each F G (m ∷ ms) [] q h = absurd (omega arith)
+map-each F G (m ∷ ms) (c ∷ cs) q h = let e = h 0 (omega arith) in let r = map-each F G ms cs (omega arith) (λ i l. h (suc i) (omega (arith, l))) in λ i. e i ∷ r i

@@ -29,7 +29,7 @@ fn answer(
     held: usize,
 ) -> Step {
     match byte(s, 0) {
-        5 | 21 => texts::write(s, words, starts, text, out, held),
+        5 | 21 | 23 => texts::write(s, words, starts, text, out, held),
         19 => pairs::equality(s, words, starts, other_words, other_starts, out, held),
         op => answers::one_arena(op, s, words, starts, out, held),
     }

@@ -16,6 +16,7 @@ use case_reading::numbers::part;
 use case_reading::numbers::word;
 use display::Displayed;
 use display::display;
+use display::display_nix;
 use sheet_writing::Written;
 use sheet_writing::write_sheet;
 use types::Counters;
@@ -24,8 +25,10 @@ use types::arc_ty::wide;
 // As many bytes as a text can be lent.
 pub type Text = [u8; 70000];
 
-// The operation that is `display`.
+// The operation that is `display`, and the one that is `write_sheet`.
 const DISPLAY: usize = 5;
+
+const WRITE_SHEET: usize = 21;
 
 // What lent bytes are before a text is written.
 const UNTOUCHED: u8 = 0xaa;
@@ -51,12 +54,12 @@ fn all_are(text: &[u8], byte: u8) -> bool {
     true
 }
 
-// What lent bytes are after 9: `display` sets them to zero, `write_sheet` leaves them.
+// What lent bytes are after 9: `write_sheet` leaves them, the others set them to zero.
 fn after_nine(op: usize) -> u8 {
-    if op == DISPLAY {
-        return 0;
+    if op == WRITE_SHEET {
+        return UNTOUCHED;
     }
-    UNTOUCHED
+    0
 }
 
 // After another number they are as lent.
@@ -103,8 +106,8 @@ fn as_displayed(r: Written) -> Displayed {
     }
 }
 
-// The call.
-fn call(
+// The text of a type, its names bare or as the manual writes them.
+fn print(
     op: usize,
     table: &[u8],
     words: &[u32],
@@ -116,7 +119,23 @@ fn call(
     if op == DISPLAY {
         return display(table, words, starts, c, root, text);
     }
-    as_displayed(write_sheet(table, words, starts, c, root, text))
+    display_nix(table, words, starts, c, root, text)
+}
+
+// The call.
+fn call(
+    op: usize,
+    table: &[u8],
+    words: &[u32],
+    starts: &[u32],
+    c: Counters,
+    root: u32,
+    text: &mut [u8],
+) -> Displayed {
+    if op == WRITE_SHEET {
+        return as_displayed(write_sheet(table, words, starts, c, root, text));
+    }
+    print(op, table, words, starts, c, root, text)
 }
 
 // The same for the parts of a case, on bytes that all have the same value.

@@ -6,8 +6,10 @@ use Rattle.types.specs.Node.{head-of, child-words, decode}
 use Rattle.types.specs.Fault.{fault}
 use Rattle.types.specs.Arena.{sound}
 use Rattle.types.specs.Memory.{arena-of}
+use Rattle.spelling.specs.Spelling.{nix-name}
+use Rattle.spelling.specs.Reading.{read-name}
 use Rattle.questions.specs.Lambdas.{has-shared-tyvar-across-lambda-params}
-use Rattle.worked.specs.Theorems.{Starred, JudgedSo, SheetHeld, RepeatRefused}
+use Rattle.worked.specs.Theorems.{Starred, JudgedSo, SheetHeld, RepeatRefused, SpelledSo}
 use Rattle.set_op_lists.specs.SetOps.{normalize-set-ops}
 use Rattle.simplification.proofs.Evaluated.{worked-so as simplify-so}
 use Rattle.display.proofs.Evaluated.{worked-so as display-so}
@@ -29,3 +31,7 @@ repeat-refused = refl
 pub starred-so : Starred
 unfolding tyvar-name normalize-set-ops child-words sound has-shared-tyvar-across-lambda-params
 starred-so = record { variables = refl; simplifies = simplify-so; normalizes = refl; prints-so = display-so; shares = refl }
+
+pub spelled-so : SpelledSo
+unfolding nix-name read-name
+spelled-so = record { writes = refl; reads-back = refl; reads = refl }

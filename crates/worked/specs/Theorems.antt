@@ -1,10 +1,13 @@
--- What the definitions give of the worked types is what document 01 says.
+-- What the definitions give of the worked types and names is what documents 01 and 02 say.
 use mathlib.Core.Path.{_≡_}
-use mathlib.Core.List.{map}
+use mathlib.Core.List.{[], map}
 use mathlib.Core.Option.{none, some}
+use Rattle.spelling.specs.Spelling.{nix-name}
+use Rattle.spelling.specs.Reading.{read-name}
 use Rattle.simplification.specs.Worked as simplify
 use Rattle.display.specs.Worked as display
 use Rattle.worked.specs.Worked.{Case, worked, judged, sheet, held, shared, simplified, Normalized, normalized, printed}
+use Rattle.worked.specs.Worked.{Spelled, spellings, Reads, readings}
 
 -- every starred type of 01, and what else stands in its lists
 pub record Starred : Type 0 where
@@ -25,3 +28,10 @@ SheetHeld = held 0x20000001 2 ≡ some sheet
 -- with a second variable 0 in place of int they hold none
 abbrev pub RepeatRefused : Type 0
 RepeatRefused = held 0x30000001 0 ≡ none
+
+-- every worked name is written as 02 says, and reads back; and other texts are read as the manual says (A1)
+pub record SpelledSo : Type 0 where
+  pub writes : map (λ (s : Spelled). nix-name (s .name)) spellings ≡ map (λ (s : Spelled). s .says) spellings
+  pub reads-back : map (λ (s : Spelled). read-name (s .says)) spellings
+      ≡ map (λ (s : Spelled). some (record { name = s .name; rest = [] })) spellings
+  pub reads : map (λ (r : Reads). read-name (r .text)) readings ≡ map (λ (r : Reads). r .says) readings

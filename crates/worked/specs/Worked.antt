@@ -1,9 +1,10 @@
--- The worked types of document 01 that are to be proved (those with a star), and words for each of its sentences on a node.
+-- The worked types of document 01 that are to be proved (those with a star), words for each of its sentences on a node, and names with
+-- their spellings (02, A1).
 use Prim.Native.Nat.{ℕ}
 use Prim.Native.String.{String}
 use mathlib.Core.Bool.{Bool, true, false}
 use mathlib.Core.List.{List, [], _∷_}
-use mathlib.Core.Option.{Option}
+use mathlib.Core.Option.{Option, none, some}
 use lib.ListN.{replicate}
 use Rattle.words.specs.Words.{bit}
 use Rattle.types.specs.Bytes.{bytes}
@@ -13,6 +14,8 @@ use Rattle.types.specs.Node.{positive, field, primitive, lambda, attrset, membe
 use Rattle.types.specs.Fault.{fault}
 use Rattle.types.specs.Arena.{Arena, sound}
 use Rattle.types.specs.Memory.{arena-of}
+use Rattle.names.specs.Table.{Name}
+use Rattle.spelling.specs.Reading.{Read}
 use Rattle.questions.specs.Lambdas.{has-shared-tyvar-across-lambda-params}
 use Rattle.simplification.specs.Worked as simplify
 use Rattle.display.specs.Worked as display
@@ -136,3 +139,72 @@ normalized = record { gives = normalize-set-ops 16384 4096 4 nested; says = ok (
 -- the empty sets among the types that are printed, and one for each rule of printing
 abbrev pub printed : List display.Case
 printed = display.worked
+
+-- a name, and how the manual writes it
+pub record Spelled : Type 0 where
+  pub name : Name
+  pub says : List ℕ
+
+abbrev spells : String → String → Spelled
+spells n t = record { name = bytes n; says = bytes t }
+
+-- (02, A1)
+abbrev pub spellings : List Spelled
+spellings =
+    -- identifiers
+    spells "rec1" "rec1"
+    ∷ spells "_" "_"
+    ∷ spells "a'b-c" "a'b-c"
+    -- the reserved words
+    ∷ spells "or" "\"or\""
+    ∷ spells "assert" "\"assert\""
+    ∷ spells "else" "\"else\""
+    ∷ spells "if" "\"if\""
+    ∷ spells "in" "\"in\""
+    ∷ spells "inherit" "\"inherit\""
+    ∷ spells "let" "\"let\""
+    ∷ spells "rec" "\"rec\""
+    ∷ spells "then" "\"then\""
+    ∷ spells "with" "\"with\""
+    -- no identifiers
+    ∷ spells "roll angle" "\"roll angle\""
+    ∷ spells "9a" "\"9a\""
+    ∷ spells "-a" "\"-a\""
+    -- with a backslash in quotes, or with a `$` that has none
+    ∷ spells "say \"hi\"" "\"say \\\"hi\\\"\""
+    ∷ spells "a\\b" "\"a\\\\b\""
+    ∷ spells "${x}" "\"\\${x}\""
+    ∷ spells "$x" "\"$x\""
+    ∷ spells "$${" "\"$\\${\""
+    ∷ spells "\\${" "\"\\\\\\${\""
+    ∷ []
+
+-- a text, and the name that the manual reads at its front
+pub record Reads : Type 0 where
+  pub text : List ℕ
+  pub says : Option Read
+
+abbrev reads : String → String → String → Reads
+reads t n r = record { text = bytes t; says = some (record { name = bytes n; rest = bytes r }) }
+
+abbrev reads-none : String → Reads
+reads-none t = record { text = bytes t; says = none }
+
+-- texts that aren't the spelling of a name alone, by the manual's identifiers and strings
+abbrev pub readings : List Reads
+readings =
+    -- a name ends where it can't go on, a string at its quote
+    reads "roll?: float" "roll" "?: float"
+    ∷ reads "\"or\": int" "or" ": int"
+    -- control characters; a backslash that wasn't needed; two dollars
+    ∷ reads "\"\\n\\r\\t\"" "\n\r\t" ""
+    ∷ reads "\"\\a\\$\"" "a$" ""
+    ∷ reads "\"$${\"" "$${" ""
+    -- a reserved word; no identifier; an interpolation; a string without end, and one whose quote has a backslash
+    ∷ reads-none "or"
+    ∷ reads-none "9a"
+    ∷ reads-none "\"${x}\""
+    ∷ reads-none "\"$$${x}\""
+    ∷ reads-none "\"a"
+    ∷ reads-none "\"a\\\""
+    ∷ []

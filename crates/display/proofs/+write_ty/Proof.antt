@@ -19,7 +19,7 @@ use Rattle.display.proofs.+write_ty.{statement}
 use Rattle.display.proofs.+write_ty.Tie.{close}
 
 abbrev μ-write-ty : Measures 4 write-ty-kinds.ps ℕ
-μ-write-ty κs a = a .1 .1 .1 .1 .0
+μ-write-ty κs a = a .1 .1 .1 .1 .1 .0
 
 abbrev write-ty-at : ℕ → In 4 write-ty-kinds.ps
 write-ty-at t = and 4 write-ty-kinds.ps (is 4 write-ty-kinds.ps μ-write-ty t) write-ty.Pre
@@ -29,10 +29,10 @@ write-ty-below t =
     and 4 write-ty-kinds.ps (falls 4 write-ty-kinds.ps _<_ μ-write-ty t) write-ty.Pre
 
 abbrev write-ty-Inv-loop : write-ty-lts.InvT-loop
-write-ty-Inv-loop table words starts c n text₀ count node children end₀ i₀ text end i = Printing table words starts c n node children text₀ end₀ text end i
+write-ty-Inv-loop table spelling words starts c n text₀ count node children end₀ i₀ text end i = Printing spelling table words starts c n node children text₀ end₀ text end i
 
 abbrev write-ty-μ-loop : write-ty-lts.MeasureT-loop
-write-ty-μ-loop table words starts c n text₀ count node children end₀ i₀ text end i = children - i
+write-ty-μ-loop table spelling words starts c n text₀ count node children end₀ i₀ text end i = children - i
 
 abbrev N : ℕ → write-ty-lts.Claims
 N t = (wide-reads.Asked, wide-reads.Learnt, node-at-reads.Asked, node-at-reads.Learnt, shown-count-reads.Asked, shown-count-reads.Learnt, write-beginning-reads.Asked, write-beginning-reads.Learnt, open-child-reads.Asked, open-child-reads.Learnt, child-of-reads.Asked, child-of-reads.Learnt, write-ty-below t, write-ty.Post, close-child-reads.Asked, close-child-reads.Learnt, write-ending-reads.Asked, write-ending-reads.Learnt)

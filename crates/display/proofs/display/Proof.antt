@@ -1,39 +1,18 @@
--- 1 and 2 are the verdict's; what follows them is that of `display_root`.
-use Rattle.display.proofs.Replies.{display-refused, display-done}
-use Rattle.soundness.proofs.Verdicts.{lent-known}
+-- The print with bare names.
 use borrow.Author.Needs.{needs}
+use Rattle.display.specs.Reply.{display-reply}
 use Rattle.display.proofs.display.Statement.{statement}
 use Rattle.display.proofs.display.Tie as tie
 
-judge-requires : tie.Need-judge-requires
-judge-requires c κs = search needs
-
-enum-known-lent : tie.Need-enum-known-lent
-enum-known-lent c = search needs
-
-display-root-requires : tie.Need-display-root-requires
-display-root-requires c κs = search lent-known
-
-enum-known-lent-2 : tie.Need-enum-known-lent-2
-enum-known-lent-2 c = search needs
+print-requires : tie.Need-print-requires
+print-requires c κs = search needs
 
 same-length : tie.Need-same-length
 same-length c = search needs
 
 returns : tie.Need-returns
-returns c = search display-done
-
-returns-2 : tie.Need-returns-2
-returns-2 c = search display-refused
+unfolding display-reply
+returns c = search needs
 
 pub display-spec : {M : Type 1} → statement M
-display-spec =
-    tie.close
-    (tie.spec
-    judge-requires
-    enum-known-lent
-    display-root-requires
-    enum-known-lent-2
-    same-length
-    returns
-    returns-2)
+display-spec = tie.close (tie.spec print-requires same-length returns)

@@ -11,6 +11,7 @@ use Rattle.types.specs.Arena.{Arena, at}
 use Rattle.types.specs.Memory.{Holds}
 use Rattle.types.specs.declared.Counters.{Counters}
 use Rattle.names.specs.Table.{split}
+use Rattle.spelling.specs.declared.Spelling.{Spelling}
 use Rattle.node_store.specs.Inner.Stored.{Lent}
 use Rattle.text_writing.specs.Text.{when, parens, before}
 use Rattle.text_writing.specs.Inner.Writes.{Writes}
@@ -34,9 +35,9 @@ pub record IsChild (w s : List ℕ) (c : Counters) (n i m : ℕ) : Type 0 where
 pub record Encloses (w s : List ℕ) (c : Counters) (n i : ℕ) (r : Bool) : Type 0 where
   pub is : (table : ℕ) (a : Arena) → Holds table w s c a → r ≡ encloses a n i
 
--- what stands before it is written; t are the bytes of the name table
-pub record Opens (t w s : List ℕ) (c : Counters) (n i : ℕ) (b : List ℕ) (count : ℕ) (b′ : List ℕ) (end : ℕ) : Type 0 where
-  pub is : (table : ℕ) (a : Arena) → Holds table w s c a → Writes b count (before (split t) (tag (at a n)) i (encloses a n i)) b′ end
+-- what stands before it is written, with names so spelled; t are the bytes of the name table
+pub record Opens (sp : Spelling) (t w s : List ℕ) (c : Counters) (n i : ℕ) (b : List ℕ) (count : ℕ) (b′ : List ℕ) (end : ℕ) : Type 0 where
+  pub is : (table : ℕ) (a : Arena) → Holds table w s c a → Writes b count (before sp (split t) (tag (at a n)) i (encloses a n i)) b′ end
 
 -- what stands behind it is written
 pub record Closes (w s : List ℕ) (c : Counters) (n i : ℕ) (b : List ℕ) (count : ℕ) (b′ : List ℕ) (end : ℕ) : Type 0 where

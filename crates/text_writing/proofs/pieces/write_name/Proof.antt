@@ -10,8 +10,8 @@ field-name-requires c κs = search needs
 name-at-requires : tie.Need-name-at-requires
 name-at-requires c κs = search needs
 
-append-requires : tie.Need-append-requires
-append-requires c κs = search needs
+write-spelled-requires : tie.Need-write-spelled-requires
+write-spelled-requires c κs = search needs
 
 same-length : tie.Need-same-length
 same-length c = search needs
@@ -21,4 +21,5 @@ returns c = search writes-name
 
 pub write-name-spec : {M : Type 1} → statement M
 write-name-spec =
-    tie.close (tie.spec field-name-requires name-at-requires append-requires same-length returns)
+    tie.close
+    (tie.spec field-name-requires name-at-requires write-spelled-requires same-length returns)
