@@ -8,6 +8,7 @@ use reference::node::{Field, Node};
 use reference::{NODES, WORDS};
 
 use crate::random::Random;
+use crate::spelled;
 
 #[derive(Clone, Default)]
 pub struct Build {
@@ -44,6 +45,12 @@ impl Build {
 
     pub fn var(&mut self, index: u32) -> u32 {
         self.put(Node::TyVar(index))
+    }
+
+    /// The names as texts.
+    pub fn texts(&self) -> Vec<String> {
+        let text = |name: &Vec<u8>| String::from_utf8(name.clone()).unwrap();
+        self.names.iter().map(text).collect()
     }
 
     pub fn table(&self) -> Vec<u8> {
@@ -137,20 +144,29 @@ impl Build {
 
 /// So many names of one style, in order.
 pub fn names(random: &mut Random, count: usize) -> Vec<Vec<u8>> {
-    let style = random.below(3);
+    let style = random.below(4);
+    names_by(random, count, |random| match style {
+        // Identifiers, mostly short.
+        0 => (0..random.within(1..=5))
+            .map(|_| random.pick(b"abcxyz_19"))
+            .collect(),
+        // Any printable bytes, any length.
+        1 => printable(random, 1..=64),
+        // A long common front.
+        2 => [vec![b'n'; random.within(0..=58)], printable(random, 1..=6)].concat(),
+        _ => spelled::name(random),
+    })
+}
+
+/// So many different names, each made by this, in order.
+pub fn names_by(
+    random: &mut Random,
+    count: usize,
+    name: impl Fn(&mut Random) -> Vec<u8>,
+) -> Vec<Vec<u8>> {
     let mut names = BTreeSet::new();
     while names.len() < count {
-        let name = match style {
-            // Identifiers, mostly short.
-            0 => (0..random.within(1..=5))
-                .map(|_| random.pick(b"abcxyz_19"))
-                .collect(),
-            // Any printable bytes, any length.
-            1 => printable(random, 1..=64),
-            // A long common front.
-            _ => [vec![b'n'; random.within(0..=58)], printable(random, 1..=6)].concat(),
-        };
-        names.insert(name);
+        names.insert(name(random));
     }
     names.into_iter().collect()
 }

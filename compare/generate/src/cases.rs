@@ -1,18 +1,20 @@
 //! One random case of each operation.
 
 use lang_ty::TypeArena;
+use reference::calls;
 use reference::case::{Case, Host};
 use reference::limited::Lent;
 use reference::memory::Memory;
 use reference::node::{Field, Node};
 use reference::rust::Rust;
 use reference::second;
-use reference::{NODES, TEXT, WORDS};
+use reference::{Reply, NODES, TEXT, WORDS};
 
-use crate::build::{names, printable, Build};
+use crate::build::{names, names_by, printable, Build};
 use crate::damage;
 use crate::random::Random;
 use crate::shapes::{aliases, full_of_words, lambdas, shape, Shape};
+use crate::spelled;
 use crate::twin;
 
 /// Most bytes of lent text and of a sheet, both well over their limit, so that a program that reads
@@ -26,7 +28,7 @@ pub fn case(op: u8, random: &mut Random) -> Case {
         2 => intern(random),
         3 => order(random),
         4 => simplify(random),
-        5 => display(random),
+        5 => display(Case::Display, calls::display, calls::display_nix, random),
         6 => Case::Table(table(random, 60).0),
         7 => name_order(random),
         8 => sheet(random),
@@ -35,6 +37,7 @@ pub fn case(op: u8, random: &mut Random) -> Case {
         19 => equal(random),
         21 => write_sheet(random),
         22 => name_at(random),
+        23 => display(Case::DisplayNix, calls::display_nix, calls::display, random),
         _ => panic!("no operation {op}"),
     }
 }
@@ -183,11 +186,6 @@ fn tight(arena: &Build, random: &mut Random, needs: impl Fn(Lent) -> Vec<Node>) 
     arena.host(words, starts)
 }
 
-fn texts(arena: &Build) -> Vec<String> {
-    let text = |name: &Vec<u8>| String::from_utf8(name.clone()).unwrap();
-    arena.names.iter().map(text).collect()
-}
-
 fn on_type(op: u8, random: &mut Random) -> Case {
     let Shape { arena, root: at } = match op {
         15 if random.percent(50) => lambdas(random),
@@ -201,7 +199,7 @@ fn on_type(op: u8, random: &mut Random) -> Case {
         _ => |_: &mut TypeArena, root| root,
     };
     let needs = |_| {
-        let mut rust = Rust::holding(&arena.nodes, &texts(&arena));
+        let mut rust = Rust::holding(&arena.nodes, &arena.texts());
         rust.change(at, call);
         rust.nodes()
     };
@@ -214,7 +212,7 @@ fn on_type(op: u8, random: &mut Random) -> Case {
 
 fn compact(random: &mut Random) -> Case {
     let Shape { arena, root: at } = shape(random);
-    let (nodes, _) = Rust::holding(&arena.nodes, &texts(&arena)).compact(at);
+    let (nodes, _) = Rust::holding(&arena.nodes, &arena.texts()).compact(at);
     let words: usize = nodes.iter().map(Node::size).sum();
     let (words, starts) = match random.percent(50) {
         true => lent(random, words, nodes.len()),
@@ -265,30 +263,57 @@ fn equal(random: &mut Random) -> Case {
     Case::Equal(left, right)
 }
 
-fn display(random: &mut Random) -> Case {
+/// The Rust's text, or the one with spelled names.
+pub type Print = fn(&Host, u32, u32) -> Reply<String>;
+
+/// What is lent is measured by the text that is asked for, or now and then by the other.
+fn display(
+    call: fn(Host, u32, u32) -> Case,
+    print: Print,
+    other: Print,
+    random: &mut Random,
+) -> Case {
     let Shape {
         mut arena,
         root: mut at,
-    } = shape(random);
+    } = printed(random);
     if random.percent(1) {
         at = long_text(&mut arena, random);
     }
-    let text = Rust::holding(&arena.nodes, &texts(&arena)).display(at, TEXT);
+    let print = if random.percent(15) { other } else { print };
+    let mut host = host(&arena, random);
+    let text = print(&host, at, TEXT as u32);
     let length = text.map_or(TEXT as u32, |text| text.len() as u32);
     let room = room(length, random);
-    let mut host = host(&arena, random);
     if random.percent(6) {
         damage::host(&mut host, random);
     }
-    Case::Display(host, root(&arena, at, random), room)
+    call(host, root(&arena, at, random), room)
 }
 
-/// How many bytes are lent for so many: as many, one less, a few more, or any number.
+/// A type to be printed: often one with many names, now and then one whose text, bare or spelled, is about as long as a text
+/// may be.
+fn printed(random: &mut Random) -> Shape {
+    match random.below(100) {
+        0..25 => spelled::shape(random),
+        25..27 => {
+            let two = names_by(random, 2, spelled::name);
+            let wanted = random.pick(&[TEXT - 1, TEXT, TEXT, TEXT + 1]);
+            spelled::long(two, wanted, random.pick(&spelled::LENGTHS))
+        }
+        _ => shape(random),
+    }
+}
+
+/// How many bytes are lent for so many: as many, one less, one or a few more, or any number.
 fn room(length: u32, random: &mut Random) -> u32 {
     match random.below(6) {
         0 | 1 => length,
         2 => length - 1,
-        3 => length + random.below(100) as u32,
+        3 => {
+            let more = random.below(100) as u32;
+            length + random.pick(&[1, more])
+        }
         4 => random.pick(&[0, 1, 65_535, 65_536, 65_537, MOST_ROOM]),
         _ => random.below(length as usize + 1) as u32,
     }
@@ -371,7 +396,7 @@ fn name_order(random: &mut Random) -> Case {
 fn sheet(random: &mut Random) -> Case {
     let Shape { arena, root: at } = match random.percent(1) {
         true => full_sheet(random),
-        false => shape(random),
+        false => printed(random),
     };
     let count = arena.nodes.len();
     let mut nodes: Vec<Vec<u32>> = arena.nodes.iter().map(Node::encode).collect();

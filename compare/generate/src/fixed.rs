@@ -1,14 +1,21 @@
 //! The worked types of document 01, and types at each limit, for every operation.
 
+use std::collections::BTreeSet;
+
+use reference::calls;
 use reference::case::{Case, Host};
 use reference::memory::Memory;
 use reference::node::{Field, Node};
+use reference::sheet::{self, Sheet};
+use reference::spelling::RESERVED;
 use reference::{MEMBERS, NODES, TEXT, WORDS};
 
 use crate::build::Build;
+use crate::cases::Print;
+use crate::shapes::Shape;
+use crate::spelled::{long, FREE, LENGTHS};
 
 pub fn cases(op: u8) -> Vec<Case> {
-    let room = [TEXT as u32, 3, 2];
     match op {
         1 => [0, 25, 26, u32::MAX - 1, u32::MAX]
             .map(Case::TyvarName)
@@ -20,7 +27,7 @@ pub fn cases(op: u8) -> Vec<Case> {
                 .into()
         }),
         4 => on_types(|host, root| vec![Case::Simplify(host, root)]),
-        5 => on_types(|host, root| room.map(|r| Case::Display(host.clone(), root, r)).into()),
+        5 => texts(Case::Display, calls::display),
         6 => [0, 1, 255, 256, 257]
             .map(|n| Case::Table(numbered(n).table()))
             .into(),
@@ -43,18 +50,77 @@ pub fn cases(op: u8) -> Vec<Case> {
                 .into()
         }),
         22 => places(),
+        23 => texts(Case::DisplayNix, calls::display_nix),
         _ => panic!("no operation {op}"),
     }
 }
 
 /// A call on every type, first with all memory lent and then with no more than the arena fills.
 fn on_types(call: impl Fn(Host, u32) -> Vec<Case>) -> Vec<Case> {
+    on(types(), call)
+}
+
+fn on(types: Vec<(Build, u32)>, call: impl Fn(Host, u32) -> Vec<Case>) -> Vec<Case> {
     let mut cases = Vec::new();
-    for (arena, root) in types() {
+    for (arena, root) in types {
         cases.extend(call(arena.host(WORDS, NODES), root));
         cases.extend(call(arena.host(arena.words, arena.nodes.len()), root));
     }
     cases
+}
+
+/// Every type and those with names in quotes, printed into all bytes, into as many as its text has, one less and one more,
+/// and into few.
+fn texts(call: fn(Host, u32, u32) -> Case, print: Print) -> Vec<Case> {
+    on([types(), named()].concat(), |host, root| {
+        let most = TEXT as u32;
+        let length = print(&host, root, most).map_or(most, |text| text.len() as u32);
+        [most, length - 1, length, length + 1, 3, 2]
+            .map(|room| call(host.clone(), root, room))
+            .into()
+    })
+}
+
+/// Types with names in quotes: a set with the worked names of request A1, names at the ends of what an identifier may have, all
+/// reserved words, the same with a letter more, and words that aren't reserved, each a field and an alias; texts of 65,536 bytes
+/// and of one more, where they are bare and where they are spelled.
+fn named() -> Vec<(Build, u32)> {
+    let worked = r#"roll angle|rec1|_|a'b-c|9a|-a|say "hi"|a\b|${x}|$x|$${|\${"#;
+    let near = "'a|z'|A0|Z9|a/|a:|a.b|a@b|a[b|a`b|a{b|x$|$}";
+    let longer = RESERVED.map(|word| format!("{word}s"));
+    let words = RESERVED.into_iter().chain(FREE);
+    let words = words.chain(longer.iter().map(String::as_str));
+    let all = worked.split('|').chain(near.split('|'));
+    let all: BTreeSet<&str> = all.chain(words).collect();
+    let mut types = vec![every_name(all.into_iter().map(Vec::from).collect())];
+    let pairs = [
+        ["\"".repeat(64), "\\".repeat(64)],
+        ["${", "or"].map(String::from),
+    ];
+    for two in pairs {
+        for length in LENGTHS {
+            for wanted in [TEXT, TEXT + 1] {
+                let names = two.iter().map(|name| name.clone().into_bytes()).collect();
+                let Shape { arena, root } = long(names, wanted, length);
+                types.push((arena, root));
+            }
+        }
+    }
+    types
+}
+
+/// The set that has each name as a field, of which the type is the alias of that name.
+fn every_name(names: Vec<Vec<u8>>) -> (Build, u32) {
+    let count = names.len() as u8;
+    let mut arena = Build::named(names);
+    let int = arena.put(Node::Primitive(2));
+    let field = |name| Field {
+        optional: name % 2 == 1,
+        name,
+        child: arena.put(Node::Named(name, int)),
+    };
+    let fields = (0..count).map(field).collect();
+    over(arena, vec![Node::AttrSet(fields, Some(int), true)])
 }
 
 /// A table of so many names of two bytes.
@@ -250,7 +316,7 @@ fn filled(words: usize) -> Build {
     arena
 }
 
-/// The example, and sheets of 4,096 and 4,097 nodes.
+/// The example, sheets of 4,096 and 4,097 nodes, and sheets with names in quotes.
 fn sheets() -> Vec<Case> {
     let sheet = |opening: &[u8], words: Vec<u32>| {
         let words = words.into_iter().flat_map(u32::to_be_bytes);
@@ -261,9 +327,20 @@ fn sheets() -> Vec<Case> {
         let lists = (0..count - 1).flat_map(|n| [0x4000_0001, n]);
         [0x2000_0001, 2].into_iter().chain(lists).collect()
     };
-    vec![
+    let mut sheets = vec![
         sheet(&[0, 0, 0, 3, 0, 2], example),
         sheet(&[0, 0, 0x10, 0x00, 0, 9], chain(4096)),
         sheet(&[0, 0, 0x10, 0x01, 0, 9], chain(4097)),
-    ]
+    ];
+    sheets.extend(named().into_iter().map(written));
+    sheets
+}
+
+fn written((arena, root): (Build, u32)) -> Case {
+    let sheet = Sheet {
+        names: arena.texts(),
+        nodes: arena.nodes,
+        root,
+    };
+    Case::Sheet(sheet::write(&sheet, TEXT).expect("it fits"))
 }

@@ -11,6 +11,7 @@ mod fixed;
 mod random;
 mod shapes;
 mod short;
+mod spelled;
 mod twin;
 
 use std::env;

@@ -47,7 +47,7 @@ pub fn shape(random: &mut Random) -> Shape {
     Shape { arena, root }
 }
 
-fn leaves(arena: &mut Build, random: &mut Random) {
+pub fn leaves(arena: &mut Build, random: &mut Random) {
     for index in 0..random.within(1..=4) {
         arena.var(index as u32);
     }

@@ -11,8 +11,8 @@ pub fn cases(op: u8) -> Vec<Case> {
         2 => nodes(),
         3 => orders(),
         4 => types(Case::Simplify),
-        5 => types(|host, root| Case::Display(host, root, 65_536)),
-        6 => texts(&[0, 1, 2, 31, 32, 126, 127], 4)
+        5 => texts(Case::Display),
+        6 => lists(&[0, 1, 2, 31, 32, 126, 127], 4)
             .map(Case::Table)
             .collect(),
         7 => names(),
@@ -21,9 +21,10 @@ pub fn cases(op: u8) -> Vec<Case> {
         18 => types(|host, root| Case::Compact(host.clone(), root, host.memory)),
         19 => equals(),
         21 => types(|host, root| Case::WriteSheet(host, root, 65_536)),
-        22 => texts(&[0, 1, 2, 31, 32, 126, 127], 4)
+        22 => lists(&[0, 1, 2, 31, 32, 126, 127], 4)
             .flat_map(|table| [0, 1, 2].map(|number| Case::NameAt(table.clone(), number)))
             .collect(),
+        23 => texts(Case::DisplayNix),
         _ => panic!("no operation {op}"),
     }
 }
@@ -35,7 +36,7 @@ fn indexes() -> Vec<Case> {
 }
 
 /// All lists of at most so many items.
-fn texts<T: Clone>(items: &[T], most: usize) -> impl Iterator<Item = Vec<T>> {
+fn lists<T: Clone>(items: &[T], most: usize) -> impl Iterator<Item = Vec<T>> {
     let mut all = vec![vec![]];
     let mut longest = 0..1;
     for _ in 0..most {
@@ -57,7 +58,7 @@ fn nodes() -> Vec<Case> {
     arena.var(0);
     arena.put(Node::Top);
     let host = arena.host(8, 3);
-    let bodies: Vec<_> = texts(&[0, 2, 1 << 12, 1 << 23, 1 << 31], 2).collect();
+    let bodies: Vec<_> = lists(&[0, 2, 1 << 12, 1 << 23, 1 << 31], 2).collect();
     let mut cases = vec![Case::Intern(host.clone(), vec![])];
     for kind_and_flags in 0..1 << 6 {
         for zero_and_count in [0, 1, 2, 3, 1 << 16 | 1, 1 << 25 | 1] {
@@ -158,6 +159,21 @@ fn types(call: impl Fn(Host, u32) -> Case) -> Vec<Case> {
     cases
 }
 
+/// The same types, and an alias of each short name: all of two bytes, those of up to four over bytes that have a meaning.
+fn texts(call: fn(Host, u32, u32) -> Case) -> Vec<Case> {
+    let printable: Vec<u8> = (32..=126).collect();
+    let names = lists(&printable, 2).chain(lists(b"\"\\${ a-", 4));
+    let alias = |name| {
+        let mut arena = Build::named(vec![name]);
+        let var = arena.var(0);
+        let root = arena.put(Node::Named(0, var));
+        call(arena.host(8, 4), root, 65_536)
+    };
+    let mut cases = types(|host, root| call(host, root, 65_536));
+    cases.extend(names.filter(|name| !name.is_empty()).map(alias));
+    cases
+}
+
 /// All pairs of small nodes, the same arena on both sides.
 fn equals() -> Vec<Case> {
     let beside = |case| match case {
@@ -168,7 +184,7 @@ fn equals() -> Vec<Case> {
 }
 
 fn names() -> Vec<Case> {
-    let all: Vec<Vec<u8>> = texts(b" a~", 2).collect();
+    let all: Vec<Vec<u8>> = lists(b" a~", 2).collect();
     let pairs = all
         .iter()
         .flat_map(|left| all.iter().map(move |right| (left, right)));

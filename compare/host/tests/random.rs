@@ -6,9 +6,11 @@ use std::sync::Arc;
 
 use coombtray::{sheet_line, tyvar_name, TyRef, TypeArena};
 use host::both::{nodes, to_ours, to_theirs, Both, PRIMITIVES};
-use host::random::{type_of, Random};
+use host::random::{type_of, Random, NAMES};
 use lang_ty::simplify::simplify;
 use lang_ty::OwnedTy;
+use reference::rust::Rust;
+use reference::TEXT;
 
 const TYPES: u64 = 3_000;
 const SHEETS: u64 = 10_000;
@@ -152,17 +154,18 @@ fn random_types() {
     met.often("passes", &["2", "3"]);
 }
 
-/// Written as a sheet and read again, the type has the line that the Rust gives it. The passes are ours.
+/// Written as a sheet and read again, the type has the line that the Rust gives it, with the names as the manual writes them.
+/// The passes are ours.
 fn written(seed: u64, met: &mut Met) {
     let (mut both, root) = type_of(seed);
     let sheet = both.ours.write_sheet(root).unwrap();
     let passes = both.ours.simplify(root).unwrap().passes;
-    let after = simplify(&mut both.theirs, to_theirs(root));
-    let text = both.theirs.display(after).to_string();
-    let line = format!("{} {passes} {text}", after.into_raw());
-    let read = sheet_line(&sheet).map_err(|refusal| refusal.number());
-    let fits = text.len() <= 65_536;
-    assert_eq!(read, if fits { Ok(line) } else { Err(9) });
+    let after = simplify(&mut both.theirs, to_theirs(root)).into_raw();
+    let text = Rust::over(both.theirs, &NAMES).display_nix(after, TEXT);
+    let read = sheet_line(&sheet).map_err(|refusal| refusal.number() as u8);
+    let line = text.map(|text| format!("{after} {passes} {text}"));
+    met.note("quotes", line.as_ref().is_ok_and(|line| line.contains('"')));
+    assert_eq!(read, line);
     met.note("over 256 bytes", sheet.len() > 256);
 }
 
@@ -174,7 +177,9 @@ fn sheets() {
             written(seed, &mut met);
         }
     });
-    met.often("over 256 bytes", &["true", "false"]);
+    for what in ["over 256 bytes", "quotes"] {
+        met.often(what, &["true", "false"]);
+    }
 }
 
 #[test]

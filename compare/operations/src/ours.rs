@@ -31,6 +31,7 @@ declare! {
         usize, usize, u32,
         *const u8, usize, *const u32, usize, *const u32, usize, usize, usize, u32, *mut u32);
     lang_ty_display(usize, usize, u32, *mut u8, usize, *mut usize);
+    lang_ty_display_nix(usize, usize, u32, *mut u8, usize, *mut usize);
     lang_ty_intern(*mut usize, *mut usize, *const u32, usize, *mut u32);
     lang_ty_simplify(*mut usize, *mut usize, u32, *mut u32, *mut u32);
     lang_ty_normalize_vars(*mut usize, *mut usize, u32, *mut u32);
@@ -183,9 +184,13 @@ impl Ours {
                 ask!(self, lang_ty_free_type_vars, vars, &mut self.length)
             }
             Operation::StructurallyEq => self.equal(),
-            Operation::Display => {
+            Operation::Display | Operation::DisplayNix => {
+                let print = match operation {
+                    Operation::Display => lang_ty_display,
+                    _ => lang_ty_display_nix,
+                };
                 let (text, room) = (self.text.as_mut_ptr(), self.text.len());
-                ask!(self, lang_ty_display, text, room, &mut self.length)
+                ask!(self, print, text, room, &mut self.length)
             }
             _ => self.copy(),
         }
@@ -268,7 +273,7 @@ impl Side for Ours {
         assert_eq!(refusal, 0, "ours refused {operation:?}");
         let answer = match operation {
             Operation::FreeTypeVars => Answer::Numbers(self.vars[..self.length].to_vec()),
-            Operation::Display => {
+            Operation::Display | Operation::DisplayNix => {
                 let text = self.text[..self.length].to_vec();
                 Answer::Text(String::from_utf8(text).unwrap())
             }

@@ -16,6 +16,7 @@ pub enum Operation {
     FreeTypeVars,
     StructurallyEq,
     Display,
+    DisplayNix,
     Compact,
     NormalizeVars,
     NormalizeReplacingUnknown,
@@ -25,7 +26,7 @@ pub enum Operation {
 
 use Operation::*;
 
-pub const OPERATIONS: [(Operation, &str); 17] = [
+pub const OPERATIONS: [(Operation, &str); 18] = [
     (UnwrapNamed, "unwrap_named"),
     (InternStored, "intern, a stored node"),
     (InternNew, "intern, a new node"),
@@ -38,6 +39,7 @@ pub const OPERATIONS: [(Operation, &str); 17] = [
     (FreeTypeVars, "free_type_vars"),
     (StructurallyEq, "structurally_eq"),
     (Display, "display"),
+    (DisplayNix, "display_nix"),
     (Compact, "compact"),
     (NormalizeVars, "normalize_vars"),
     (NormalizeReplacingUnknown, "normalize_replacing_unknown"),

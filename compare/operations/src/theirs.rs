@@ -64,7 +64,8 @@ fn rust_measured(theirs: &mut Theirs, operation: Operation) -> Made {
         Operation::HasSharedTyvar => is(arena.has_shared_tyvar_across_lambda_params(root)),
         Operation::FreeTypeVars => Made::Numbers(arena.free_type_vars(root)),
         Operation::StructurallyEq => is(theirs.left.structurally_eq(&theirs.right)),
-        Operation::Display => Made::Text(arena.display(root).to_string()),
+        // No name of these types needs quotes, so both texts are the Rust's.
+        Operation::Display | Operation::DisplayNix => Made::Text(arena.display(root).to_string()),
         Operation::Compact => {
             let (copy, root) = arena.compact(root);
             Made::Copy(copy, root)

@@ -47,6 +47,9 @@ pub fn answer(case: &Case) -> Answer {
         Case::WriteSheet(host, root, room) => {
             said(calls::write_sheet(host, *root, *room).map(text))
         }
+        Case::DisplayNix(host, root, room) => {
+            said(calls::display_nix(host, *root, *room).map(text))
+        }
     };
     Answer { line, left_out }
 }

@@ -88,6 +88,10 @@ pub fn display(host: &Host, root: u32, room: u32) -> Reply<String> {
     rust(host, root)?.display(root, room as usize)
 }
 
+pub fn display_nix(host: &Host, root: u32, room: u32) -> Reply<String> {
+    rust(host, root)?.display_nix(root, room as usize)
+}
+
 /// The bytes of the sheet, which must be read as what was written.
 pub fn write_sheet(host: &Host, root: u32, room: u32) -> Reply<Vec<u8>> {
     let (names, nodes) = read(host)?;

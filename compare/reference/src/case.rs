@@ -27,11 +27,12 @@ pub enum Case {
     Compact(Host, u32, Memory),
     Equal((Host, u32), (Host, u32)),
     WriteSheet(Host, u32, u32),
+    DisplayNix(Host, u32, u32),
 }
 
 /// The numbers of the operations, all that there are.
-pub const OPS: [u8; 22] = [
-    1, 2, 3, 4, 5, 6, 7, 8, 9, 10, 11, 12, 13, 14, 15, 16, 17, 18, 19, 20, 21, 22,
+pub const OPS: [u8; 23] = [
+    1, 2, 3, 4, 5, 6, 7, 8, 9, 10, 11, 12, 13, 14, 15, 16, 17, 18, 19, 20, 21, 22, 23,
 ];
 
 /// Cases are taken from the front.
@@ -111,6 +112,7 @@ impl Iterator for Reader<'_> {
             19 => Case::Equal((self.host(), self.word()), (self.host(), self.word())),
             21 => Case::WriteSheet(self.host(), self.word(), self.word()),
             22 => Case::NameAt(self.text(2), self.word()),
+            23 => Case::DisplayNix(self.host(), self.word(), self.word()),
             op => panic!("no operation {op}"),
         })
     }
@@ -184,6 +186,7 @@ impl Case {
             Case::Equal(..) => 19,
             Case::WriteSheet(..) => 21,
             Case::NameAt(..) => 22,
+            Case::DisplayNix(..) => 23,
         }
     }
 
@@ -197,7 +200,8 @@ impl Case {
             }
             Case::Order(host, first, second)
             | Case::Display(host, first, second)
-            | Case::WriteSheet(host, first, second) => {
+            | Case::WriteSheet(host, first, second)
+            | Case::DisplayNix(host, first, second) => {
                 to.host(host);
                 to.word(*first);
                 to.word(*second);

@@ -17,6 +17,7 @@ pub mod second;
 pub mod set_ops;
 pub mod sheet;
 pub mod simplify;
+pub mod spelling;
 pub mod table;
 
 /// A value, or the number of the refusal.

@@ -9,6 +9,7 @@ use smol_str::SmolStr;
 
 use crate::node::{Field, Node};
 use crate::primitives::PRIMITIVES;
+use crate::spelling::{spelled, stand_in, InPlace};
 use crate::{Reply, TEXT};
 
 #[derive(Clone)]
@@ -28,15 +29,17 @@ fn numbers(members: &[TyRef]) -> Vec<u32> {
 impl Rust {
     /// A Rust arena with these nodes under the same numbers.
     pub fn holding(nodes: &[Node], names: &[String]) -> Rust {
-        let names = names.iter().map(SmolStr::new).collect();
-        let mut rust = Rust {
-            arena: TypeArena::new(),
-            names,
-        };
+        let mut rust = Rust::over(TypeArena::new(), names);
         for (number, node) in nodes.iter().enumerate() {
             assert_eq!(rust.intern(node) as usize, number, "nodes differ");
         }
         rust
+    }
+
+    /// This arena, whose names are in the table.
+    pub fn over(arena: TypeArena, names: &[impl AsRef<str>]) -> Rust {
+        let names = names.iter().map(SmolStr::new).collect();
+        Rust { arena, names }
     }
 
     pub fn intern(&mut self, node: &Node) -> u32 {
@@ -87,13 +90,33 @@ impl Rust {
 
     /// The text, or 9 if it is longer than `room` or the most there may be.
     pub fn display(&self, root: u32, room: usize) -> Reply<String> {
-        let room = room.min(TEXT);
-        let mut text = Bounded {
-            text: String::new(),
-            room,
-        };
-        let shown = write!(text, "{}", self.arena.display(at(root)));
-        shown.map(|()| text.text).map_err(|_| 9)
+        let mut text = Bounded::of(room);
+        self.print(root, &mut text)?;
+        Ok(text.text)
+    }
+
+    fn print(&self, root: u32, to: &mut impl Write) -> Reply<()> {
+        write!(to, "{}", self.arena.display(at(root))).map_err(|_| 9)
+    }
+
+    /// The same, with the names as the manual writes them. The Rust prints stand-ins for them, in the same order; with the
+    /// names as they are in their places, the text must be the Rust's own.
+    pub fn display_nix(&self, root: u32, room: usize) -> Reply<String> {
+        let stand_ins: Vec<String> = (0..self.names.len()).map(stand_in).collect();
+        let rust = Rust::holding(&self.nodes(), &stand_ins);
+        let bare: Vec<String> = self.names.iter().map(|name| name.to_string()).collect();
+        let own = self.display(root, TEXT);
+        assert_eq!(rust.naming(root, TEXT, &bare), own, "the texts differ");
+        let names: Vec<String> = bare.iter().map(|name| spelled(name)).collect();
+        rust.naming(root, room, &names)
+    }
+
+    /// The text with these names in the places of stand-ins.
+    fn naming(&self, root: u32, room: usize, names: &[String]) -> Reply<String> {
+        let to = Bounded::of(room);
+        let mut text = InPlace { to, names };
+        self.print(root, &mut text)?;
+        Ok(text.to.text)
     }
 
     /// The Rust's form of a node.
@@ -160,6 +183,16 @@ impl Rust {
 struct Bounded {
     text: String,
     room: usize,
+}
+
+impl Bounded {
+    /// Of so many bytes, or the most that there may be.
+    fn of(room: usize) -> Bounded {
+        Bounded {
+            text: String::new(),
+            room: room.min(TEXT),
+        }
+    }
 }
 
 impl Write for Bounded {

@@ -129,12 +129,12 @@ pub fn line(sheet: &[u8], left_out: &mut bool) -> Reply<String> {
     if let Some(refusal) = run.arena.refused {
         return Err(refusal);
     }
-    let text = Rust::holding(&run.arena.nodes, &names).display(run.root, TEXT)?;
+    let text = Rust::holding(&run.arena.nodes, &names).display_nix(run.root, TEXT)?;
     Ok(format!("{} {} {text}", run.root, run.passes))
 }
 
 /// The root and the text by the unchanged Rust alone, as a host without limits would work: the sheet is read as above, but
-/// neither the passes nor 7 and 8 are found.
+/// neither the passes nor 7 and 8 are found, and names are bare.
 pub fn unchanged_line(sheet: &[u8]) -> Reply<String> {
     let Sheet { names, nodes, root } = read(sheet)?;
     let mut rust = Rust::holding(&nodes, &names);
