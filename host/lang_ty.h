@@ -164,8 +164,16 @@ uint32_t lang_ty_structurally_eq(
     size_t right_nodes, size_t right_used, uint32_t right_root,
     uint32_t *is);
 
-/* The text of the type; bytes past it stay, and 9 sets all of them to 0. */
+/* The text of the type, with names as they stand in the table; bytes past it stay, and 9 sets all of them to 0. */
 uint32_t lang_ty_display(
+    const uint8_t *table, size_t table_len,
+    const uint32_t *words, size_t words_len, const uint32_t *starts, size_t starts_len,
+    size_t nodes, size_t used,
+    uint32_t root, uint8_t *text, size_t text_len, size_t *len);
+
+/* The same, with names as the Nix manual writes them: in quotes unless the name is an identifier that isn't reserved, with a
+ * backslash before each quote, each backslash and each `$` that `{` follows. A name of 64 bytes has at most 130 so. */
+uint32_t lang_ty_display_nix(
     const uint8_t *table, size_t table_len,
     const uint32_t *words, size_t words_len, const uint32_t *starts, size_t starts_len,
     size_t nodes, size_t used,
@@ -231,7 +239,7 @@ uint32_t lang_ty_compact(
 uint32_t lang_ty_tyvar_name(
     uint32_t index, uint8_t text[LANG_TY_TYVAR_NAME], size_t *len);
 
-/* The line of a sheet; that of a refused one names the number. */
+/* The line of a sheet, its text as lang_ty_display_nix writes it; that of a refused sheet names the number. */
 uint32_t lang_ty_sheet_line(
     const uint8_t *sheet, size_t sheet_len, uint8_t line[LANG_TY_LINE], size_t *len);
 

@@ -125,7 +125,7 @@ struct results {
     uint32_t number, passes;
     size_t length;
     uint32_t vars[LANG_TY_VARS];
-    uint8_t text[64];
+    uint8_t text[160];
     size_t target_nodes, target_used;
     uint32_t target_words[LANG_TY_WORDS + 1], target_starts[LANG_TY_STARTS + 1];
 };
@@ -153,7 +153,7 @@ struct row {
     uint32_t other;            /* of compare, and the right root of structurally_eq */
     const char *right_table;   /* of structurally_eq */
     struct list right;
-    size_t text_lent;          /* of display and write_sheet */
+    size_t text_lent;          /* of display, display_nix and write_sheet */
     size_t target_words, target_starts; /* of compact: how many are lent */
 
     uint32_t answer;
@@ -211,17 +211,17 @@ static uint32_t make_structurally_eq(const struct row *row, struct host *h, stru
 }
 static const struct call structurally_eq = {make_structurally_eq, NUMBER};
 
-static uint32_t make_display(const struct row *row, struct host *h, struct results *r)
-{
-    return TOLD(lang_ty_display, READ(h), row->root, r->text, row->text_lent, &r->length);
-}
-static const struct call display = {make_display, TEXT};
+/* The calls on a root that write into lent bytes. */
+#define WRITES_BYTES(name, what) \
+    static uint32_t make_##name(const struct row *row, struct host *h, struct results *r) \
+    { \
+        return TOLD(lang_ty_##name, READ(h), row->root, r->text, row->text_lent, &r->length); \
+    } \
+    static const struct call name = {make_##name, what};
 
-static uint32_t make_write_sheet(const struct row *row, struct host *h, struct results *r)
-{
-    return TOLD(lang_ty_write_sheet, READ(h), row->root, r->text, row->text_lent, &r->length);
-}
-static const struct call write_sheet = {make_write_sheet, SHEET};
+WRITES_BYTES(display, TEXT)
+WRITES_BYTES(display_nix, TEXT)
+WRITES_BYTES(write_sheet, SHEET)
 
 static uint32_t make_intern(const struct row *row, struct host *h, struct results *r)
 {
@@ -344,6 +344,9 @@ static void run(const struct row *row)
 #define COPIED WORDS(VAR(5), INT, UNION(2), 0, 1)
 #define TWICE WORDS(VAR(0), VAR(0))
 #define BARE WORDS(lang_ty_head(LANG_TY_KIND_BOTTOM, 0), lang_ty_head(LANG_TY_KIND_TOP, 0), NEG(0), LIST(1))
+/* A set whose fields are in, in1 and roll angle; in1 is a name for $${x} too, which stands for a. */
+#define ODD_NAMES "\5$${x}\2in\3in1\12roll angle"
+#define ODD_NAMED WORDS(VAR(0), NAMED(0, 0), NAMED(2, 1), SET(3), FIELD(1, 0), lang_ty_field(2, 1, true), FIELD(3, 2))
 #define EMPTY_SETS WORDS(SET(0), lang_ty_set_head(0, true, false))
 
 /* The sheet of document 01, and what it holds. */
@@ -353,6 +356,8 @@ static const uint8_t example[] = {0, 0, 0, 3, 0, 2, 0x30, 0, 0, 1, 0, 0, 0, 0, 0
 /* The names p and qr, the unknown variable, and a set with it under qr. */
 static const uint8_t with_names[] = {0, 2, 0, 2, 0, 1, 1, 'p', 2, 'q', 'r', 0x30, 0, 0, 1, 255,
                                      255, 255, 255, 0x60, 0, 0, 1, 0, 0x80, 0, 0};
+/* The name or, the variable a, and a set with it under or. */
+static const uint8_t with_or[] = {0, 1, 0, 2, 0, 1, 2, 'o', 'r', 0x30, 0, 0, 1, 0, 0, 0, 0, 0x60, 0, 0, 1, 0, 0, 0, 0};
 #define SHEET_OF(bytes) .sheet = bytes, .sheet_len = sizeof bytes
 
 /* The helpers of the header: words as document 01 lays them out, and numbers that don't fit. */
@@ -446,6 +451,28 @@ static void check_texts(void)
     RUN(display, .given = BARE, .root = 3, .text_lent = 64, .text = "[any]");
     RUN(display, .table = "\1p", .given = WORDS(VAR(0), lang_ty_set_head(1, true, true), lang_ty_field(0, 0, true), lang_ty_child(0)),
         .root = 1, .text_lent = 64, .text = "{ p?: a, _: a, ... }");
+}
+
+/* 64 quotes are a name, which has 130 bytes as the manual writes it. */
+#define SIXTEEN(text) text text text text text text text text text text text text text text text text
+#define SIXTY_FOUR(text) SIXTEEN(text) SIXTEEN(text) SIXTEEN(text) SIXTEEN(text)
+
+static void check_nix_texts(void)
+{
+    const char *text = "{ \"in\": a, in1?: \"$\\${x}\", \"roll angle\": in1 }";
+    RUN(display, .table = ODD_NAMES, .given = ODD_NAMED, .root = 3, .text_lent = 160, .text = "{ in: a, in1?: $${x}, roll angle: in1 }");
+    RUN(display_nix, .table = ODD_NAMES, .given = ODD_NAMED, .root = 3, .text_lent = 160, .text = text);
+    RUN(display_nix, .table = ODD_NAMES, .given = ODD_NAMED, .root = 3, .text_lent = strlen(text), .text = text);
+    RUN(display_nix, .table = ODD_NAMES, .given = ODD_NAMED, .root = 3, .text_lent = strlen(text) - 1, .answer = LANG_TY_TOO_LONG);
+    RUN(display_nix, .table = ODD_NAMES, .given = ODD_NAMED, .root = 1, .text_lent = 8, .text = "\"$\\${x}\"");
+    RUN(display_nix, .table = ODD_NAMES, .given = ODD_NAMED, .root = 2, .text_lent = 3, .text = "in1");
+    RUN(display_nix, .table = ODD_NAMES, .given = ODD_NAMED, .root = 4, .text_lent = 160, .answer = LANG_TY_BAD_ROOT);
+    RUN(display_nix, .given = A_OR_INT, .root = 3, .text_lent = 32, .text = "a -> a | int");
+    RUN(display_nix, .given = A_OR_INT, .root = 3, .text_lent = 0, .answer = LANG_TY_TOO_LONG);
+    RUN(display_nix, .table = "\100" SIXTY_FOUR("\""), .given = WORDS(VAR(0), NAMED(0, 0)), .root = 1, .text_lent = 130,
+        .text = "\"" SIXTY_FOUR("\\\"") "\"");
+    RUN(display_nix, .table = "\100" SIXTY_FOUR("\""), .given = WORDS(VAR(0), NAMED(0, 0)), .root = 1, .text_lent = 129,
+        .answer = LANG_TY_TOO_LONG);
 }
 
 static void check_primitives(void)
@@ -560,7 +587,7 @@ static void check_normalize(void)
 
 static const struct call *const all[] = {
     &compare, &count_reachable, &unwrap_named, &has_type_vars, &needs_var_normalization, &contains_bare_tyvar,
-    &has_shared_tyvar_across_lambda_params, &free_type_vars, &structurally_eq, &display, &write_sheet,
+    &has_shared_tyvar_across_lambda_params, &free_type_vars, &structurally_eq, &display, &display_nix, &write_sheet,
     &intern, &simplify, &normalize_vars, &normalize_replacing_unknown, &normalize_set_ops, &compact,
 };
 
@@ -703,6 +730,7 @@ static void check_sheets(void)
     } sheets[] = {
         {__LINE__, example, sizeof example, "1 2 int\n"},
         {__LINE__, example, sizeof example - 1, "refused 10\n"},
+        {__LINE__, with_or, sizeof with_or, "1 2 { \"or\": a }\n"},
         {__LINE__, example + 3, 6, "refused 1\n"}, /* 768 names */
     };
     for (size_t k = 0; k < COUNT(sheets); k++) {
@@ -725,6 +753,7 @@ int main(void)
     check_questions();
     check_equality();
     check_texts();
+    check_nix_texts();
     check_primitives();
     check_written_sheets();
     check_copies();

@@ -17,12 +17,15 @@ type Step = fn(TyRef) -> OutputTy;
 /// Whether it was answered.
 type Operation = fn(&mut TypeArena, TyRef) -> bool;
 
+/// It stands in quotes as the manual writes it, and 4,090 of them fit a text.
+const NAME: &str = "p q";
+
 fn first() -> TyRef {
     TyRef::from_raw(0)
 }
 
 fn set(field: Option<TyRef>, dyn_ty: Option<TyRef>) -> OutputTy {
-    let fields = field.map(|ty| ("p".to_string(), Field::required(ty)));
+    let fields = field.map(|ty| (NAME.to_string(), Field::required(ty)));
     OutputTy::AttrSet(AttrSetTy {
         fields: fields.into_iter().collect(),
         dyn_ty,
@@ -53,12 +56,12 @@ const CHAINS: [(&str, Step); 10] = [
         OutputTy::Intersection(vec![ty, first()])
     }),
     ("both in turn", in_turn),
-    ("names", |ty| OutputTy::Named("p".into(), ty)),
+    ("names", |ty| OutputTy::Named(NAME.into(), ty)),
     ("negs", OutputTy::Neg),
 ];
 
 /// A refusal by 7 counts as well: it comes after the recursion is at its deepest.
-const OPERATIONS: [(&str, Operation); 19] = [
+const OPERATIONS: [(&str, Operation); 20] = [
     ("intern", |a, r| a.intern(OutputTy::List(r)).is_ok()),
     ("get", |a, r| a.get(r).is_ok()),
     ("compare", |a, r| a.compare(r, first()).is_ok()),
@@ -77,6 +80,7 @@ const OPERATIONS: [(&str, Operation); 19] = [
     ("free_type_vars", |a, r| a.free_type_vars(r).is_ok()),
     ("structurally_eq", |a, r| a.structurally_eq(r, a, r).is_ok()),
     ("display", |a, r| a.display(r).is_ok()),
+    ("display_nix", |a, r| a.display_nix(r).is_ok()),
     ("simplify", |a, r| a.simplify(r).is_ok()),
     ("normalize_vars", |a, r| a.normalize_vars(r).is_ok()),
     ("normalize_replacing_unknown", |a, r| {
@@ -100,7 +104,7 @@ fn chain(step: Step) -> (TypeArena, TyRef) {
     while nodes.len() < NODES {
         nodes.push(step(TyRef::from_raw(nodes.len() as u32 - 1)));
     }
-    let names = Names::new(["p"]).expect("a name");
+    let names = Names::new([NAME]).expect("a name");
     let arena = TypeArena::from_nodes(names, nodes).expect("a sound arena");
     (arena, TyRef::from_raw(NODES as u32 - 1))
 }

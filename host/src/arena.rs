@@ -219,16 +219,44 @@ impl TypeArena {
         self.memory.structurally_eq(root, &other.memory, other_root)
     }
 
-    /// The text of the type; 6, and 9 if it is over 65,536 bytes.
-    pub fn display(&self, ty: TyRef) -> Result<String, Refusal> {
+    fn text(&self, writing: Writing, ty: TyRef) -> Result<String, Refusal> {
         let mut text = vec![0; ffi::TEXT];
-        self.display_into(ty, &mut text).map(str::to_string)
+        let written = self.text_into(writing, ty, &mut text);
+        written.map(str::to_string)
+    }
+
+    fn text_into<'a>(
+        &self,
+        writing: Writing,
+        ty: TyRef,
+        text: &'a mut [u8],
+    ) -> Result<&'a str, Refusal> {
+        let length = self.memory.write(writing, ty.into_raw(), text)?;
+        Ok(std::str::from_utf8(&text[..length]).expect("a text has bytes 32 to 126"))
+    }
+
+    /// The text of the type, with names as they are; 6, and 9 if it is over 65,536 bytes.
+    pub fn display(&self, ty: TyRef) -> Result<String, Refusal> {
+        self.text(Writing::Display, ty)
     }
 
     /// The text at the front of lent bytes; the bytes past it stay. 6 leaves all of them; 9 sets all to 0.
     pub fn display_into<'a>(&self, ty: TyRef, text: &'a mut [u8]) -> Result<&'a str, Refusal> {
-        let length = self.memory.write(Writing::Display, ty.into_raw(), text)?;
-        Ok(std::str::from_utf8(&text[..length]).expect("a text has bytes 32 to 126"))
+        self.text_into(Writing::Display, ty, text)
+    }
+
+    /// The text of the type, with names as the Nix manual writes them; 6, and 9 if it is over 65,536 bytes.
+    ///
+    /// A name stands in quotes unless it is a letter or `_`, then letters, digits, `_`, `'` or `-`, and none of assert,
+    /// else, if, in, inherit, let, or, rec, then, with. In quotes a backslash stands before each `"`, each `\` and each
+    /// `$` that `{` follows. So the manual's rules for identifiers and strings give the name back.
+    pub fn display_nix(&self, ty: TyRef) -> Result<String, Refusal> {
+        self.text(Writing::DisplayNix, ty)
+    }
+
+    /// What `display_nix` gives, into lent bytes as by `display_into`.
+    pub fn display_nix_into<'a>(&self, ty: TyRef, text: &'a mut [u8]) -> Result<&'a str, Refusal> {
+        self.text_into(Writing::DisplayNix, ty, text)
     }
 
     /// The sheet of the names, all nodes and the type as its root; 6, and 9 if it is over 65,536 bytes.

@@ -178,6 +178,21 @@ extern "C" {
         len: *mut usize,
     ) -> u32;
 
+    pub fn lang_ty_display_nix(
+        table: *const u8,
+        table_len: usize,
+        words: *const u32,
+        words_len: usize,
+        starts: *const u32,
+        starts_len: usize,
+        nodes: usize,
+        used: usize,
+        root: u32,
+        text: *mut u8,
+        text_len: usize,
+        len: *mut usize,
+    ) -> u32;
+
     pub fn lang_ty_write_sheet(
         table: *const u8,
         table_len: usize,

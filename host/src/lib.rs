@@ -4,12 +4,15 @@
 //! ```
 //! use coombtray::{Names, OutputTy, PrimitiveTy, TypeArena};
 //!
-//! let mut arena = TypeArena::new(Names::new(["Roll"])?);
+//! let mut arena = TypeArena::new(Names::new(["roll angle"])?);
 //! let var = arena.intern(OutputTy::TyVar(0))?;
 //! let float = arena.intern(OutputTy::Primitive(PrimitiveTy::Float))?;
 //! let either = arena.intern(OutputTy::Union(vec![var, float]))?;
 //! let simplified = arena.simplify(either)?;
 //! assert_eq!(arena.display(simplified.root)?, "float");
+//! let roll = arena.intern(OutputTy::Named("roll angle".into(), simplified.root))?;
+//! assert_eq!(arena.display(roll)?, "roll angle");
+//! assert_eq!(arena.display_nix(roll)?, "\"roll angle\"");
 //! # Ok::<(), coombtray::Refusal>(())
 //! ```
 //!

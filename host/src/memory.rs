@@ -59,6 +59,7 @@ pub(crate) enum Change {
 #[derive(Clone, Copy)]
 pub(crate) enum Writing {
     Display,
+    DisplayNix,
     Sheet,
 }
 
@@ -377,6 +378,7 @@ impl Memory {
     pub fn write(&self, writing: Writing, root: u32, bytes: &mut [u8]) -> Reply<usize> {
         let call = match writing {
             Writing::Display => ffi::lang_ty_display,
+            Writing::DisplayNix => ffi::lang_ty_display_nix,
             Writing::Sheet => ffi::lang_ty_write_sheet,
         };
         let table = self.names.table();

@@ -19,7 +19,8 @@ pub fn compare_names(left: &str, right: &str) -> Ordering {
     order_of(memory::compare_names(left.as_bytes(), right.as_bytes()))
 }
 
-/// What the sheet program writes for a sheet, without the byte that ends the line; 1, 3 to 10.
+/// What the sheet program writes for a sheet, without the byte that ends the line: the root and the passes of `simplify`, and
+/// the text as [`crate::TypeArena::display_nix`] gives it; 1, 3 to 10.
 pub fn sheet_line(sheet: &[u8]) -> Result<String, Refusal> {
     let line = text(memory::sheet_line(sheet));
     let line = line.trim_end_matches('\n').to_string();

@@ -1,7 +1,7 @@
 """The nodes of a sheet for people to look at: as lines, and as a picture in Graphviz's language."""
 from .nodes import ATTR_SET, KINDS, LAMBDA, LIST, NEG, SEPARATORS, Refused, children, field_words, is_open, kind, need
 from .simplifying import dropped, signs
-from .texts import Texts, plain
+from .texts import Texts
 
 # by the signs of a node's places: none, positive, negative, both
 SIGNS = [" ", "+", "−", "±"]
@@ -22,7 +22,7 @@ def dump(sheet):
     """Lines: the names, then the nodes with start, head, kind, children and text."""
     texts = Texts(sheet.nodes, sheet.names)
     found = [f"{len(sheet.names)} names, {len(sheet.nodes)} nodes, root {sheet.root}"]
-    found += [f"name {k:<4} {plain(name)}" for k, name in enumerate(sheet.names)]
+    found += [f"name {k:<4} {name}" for k, name in enumerate(texts.fields)]
     found.append("node  start  head      kind          children and text")
     for n, (node, text) in enumerate(zip(sheet.nodes, texts.shorts())):
         parts = [f"{label}:{c}" if label else str(c) for label, c in zip(labels(node, texts), children(node))]

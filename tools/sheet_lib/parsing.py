@@ -3,17 +3,28 @@ import re
 
 from .nodes import ATTR_SET, BOTTOM, BYTES, INTERSECTION, LAMBDA, LIST, MEMBERS, NAMED, NAMES, NEG, NODES, PRIMITIVE, PRIMITIVES
 from .nodes import SEPARATORS, TOP, TY_VAR, UNION, UNKNOWN, Refused, head, need, run
-from .texts import VARIABLE, reserved
+from .texts import RESERVED, VARIABLE, is_type
 
 NAME = r""""(?:[^"\\]|\\.)*"|[A-Za-z_](?:[A-Za-z0-9_']|-(?!>))*"""
 TOKEN = re.compile(rf"->|\.\.\.|[][(){{}}|&~,:?]|{NAME}", re.S)
 DEFINITION = re.compile(rf"\s*({NAME})\s*(=|\Z)", re.S)
 SPACE = re.compile(r"\s*")
+ESCAPE = re.compile(r"\\.|\$[${]", re.S)  # in a string; `$$` is taken whole, since a `{` behind it begins nothing
 DEEPEST = 16384  # four times what a sheet can hold
 
 
-def unquoted(token):
-    return re.sub(r"\\(.)", r"\1", token[1:-1], flags=re.S) if token.startswith('"') else token
+def name_of(token, place):
+    """The name that a word or a string gives, by the manual."""
+    def meant(found):
+        piece = found.group()
+        need(piece != "${", f"in {shown(token)} ${{ begins an interpolation, which no name has; its two bytes are written \\${{", place)
+        need(piece not in ("\\n", "\\r", "\\t"), f"in {shown(token)} {piece} is a control character, which no name has", place, 1)
+        return piece if piece == "$$" else piece[-1]
+
+    if token.startswith('"'):
+        return ESCAPE.sub(meant, token[1:-1])
+    need(token not in RESERVED, f'the manual reserves {token!r}; as a name it stands in quotes: "{token}"', place)
+    return token
 
 
 def is_name(token):
@@ -22,7 +33,10 @@ def is_name(token):
 
 def shown(token):
     """A token in a message: on one line, and not a long one."""
-    return "the end" if token == "" else repr(token if len(token) <= 40 else token[:39] + "…")
+    short = token if len(token) <= 40 else token[:39] + "…"
+    if token.startswith('"') and short.isprintable():
+        return short
+    return repr(short) if token else "the end"
 
 
 def variable(word, where):
@@ -50,10 +64,12 @@ class Tree:
 
     def name(self, token, place):
         """A name that the table must hold."""
-        name = unquoted(token)
+        name = name_of(token, place)
         if name not in self.names:
             coded = name.encode("utf-8", "surrogateescape")
-            need(1 <= len(coded) <= 64 and all(32 <= byte <= 126 for byte in coded), f"{shown(token)} can't be a name", place, 1)
+            need(1 <= len(coded) <= 64, f"{shown(token)} can't be a name: it has {len(coded)} bytes", place, 1)
+            for byte in coded:
+                need(32 <= byte <= 126, f"{shown(token)} can't be a name: it has a byte {byte}", place, 1)
             need(len(self.names) < NAMES, "a 257th name", place, 1)
             self.names.add(name)
         return name
@@ -76,7 +92,8 @@ class Parser:
         self.at = SPACE.match(self.text, at).end()
         found = TOKEN.match(self.text, self.at)
         if not found and self.at < len(self.text):
-            raise Refused(f"no type goes on with {shown(self.text[self.at])}", self.here())
+            met = self.text[self.at]
+            raise Refused("no quote ends this string" if met == '"' else f"no type goes on with {shown(met)}", self.here())
         self.token, self.end = (found.group(), found.end()) if found else ("", self.at)
 
     def take(self, *wanted):
@@ -150,8 +167,8 @@ class Parser:
         return self.word(token, place)
 
     def word(self, token, place):
-        name = unquoted(token)
-        if token.startswith('"') or name in self.tree.behind and not reserved(name):
+        name = name_of(token, place)
+        if token.startswith('"') or name in self.tree.behind and not is_type(name):
             need(name in self.tree.behind, f"no NAME=TYPE before this for {shown(token)}", place)
             return self.add(NAMED, place, [self.tree.behind[name]], name)
         if token in ("never", "any"):
@@ -208,7 +225,7 @@ class Parser:
 def define(tree, text, source):
     """NAME=TYPE, or NAME alone. The type may use names that were given before."""
     found = DEFINITION.match(text)
-    need(found, "wanted NAME=TYPE or NAME, a name that is no word in quotes", f"{source}, column 1")
+    need(found, "wanted NAME=TYPE or NAME, a name that is no identifier in quotes", f"{source}, column 1")
     name = tree.name(found.group(1), f"{source}, column {found.start(1) + 1}")
     if found.group(2):
         need(name not in tree.behind, f"{shown(name)} is given twice", f"{source}, column {found.start(1) + 1}")

@@ -4,22 +4,24 @@ import re
 from .nodes import ATTR_SET, BOTTOM, BYTES, INTERSECTION, LAMBDA, LIST, NAMED, NEG, PRIMITIVE, PRIMITIVES, SEPARATORS, TOP, TY_VAR
 from .nodes import UNION, UNKNOWN, child, dynamic, field_name, field_words, is_open, kind, need, optional
 
-WORD = re.compile(r"[A-Za-z_][A-Za-z0-9_'-]*\Z")
+IDENTIFIER = re.compile(r"[A-Za-z_][A-Za-z0-9_'-]*\Z")
+RESERVED = "assert else if in inherit let or rec then with".split()
 VARIABLE = re.compile(r"[a-z](0|[1-9][0-9]*)?\Z")
 
 
-def reserved(word):
-    """Whether a bare word would be read as something other than a name."""
+def is_type(word):
+    """Whether a bare word, where a type may stand, is something other than a name."""
     return word in PRIMITIVES or word in ("never", "any") or bool(VARIABLE.match(word))
 
 
 def quoted(name):
-    return '"' + re.sub(r'(["\\])', r"\\\1", name) + '"'
+    """A name in quotes, by the manual: a backslash before each quote, each backslash and each `$` that `{` follows."""
+    return '"' + re.sub(r'["\\]|\$(?={)', r"\\\g<0>", name) + '"'
 
 
-def plain(name):
-    """A name as it stands before a field's colon: in quotes unless it is a word."""
-    return name if WORD.match(name) and name != "_" else quoted(name)
+def spelled(name):
+    """A name as the manual writes it: in quotes unless it is an identifier that isn't reserved."""
+    return name if IDENTIFIER.match(name) and name not in RESERVED else quoted(name)
 
 
 def variable_text(index):
@@ -27,19 +29,22 @@ def variable_text(index):
 
 
 class Texts:
-    """The texts of nodes. `exact` ones can be read back; the others are the program's."""
+    """The texts of nodes. `exact` ones can be read back; the others are the program's.
+
+    `fields` has the names of the table as they stand before a field's colon, `named` as they stand for a type. Exact, a name
+    is in quotes there too that would be read as something else: `_` as the dynamic part, `int` as the primitive."""
 
     def __init__(self, nodes, names, exact=True):
-        self.nodes, self.names, self.exact = nodes, names, exact
+        self.nodes, self.exact = nodes, exact
+        self.fields = [quoted(name) if exact and name == "_" else spelled(name) for name in names]
+        self.named = [quoted(name) if exact and is_type(name) else spelled(name) for name in names]
 
     def field(self, word):
-        name = self.names[field_name(word)]
-        return (plain(name) if self.exact else name) + "?" * optional(word)
+        return self.fields[field_name(word)] + "?" * optional(word)
 
     def name(self, word):
         """A named type stands as its name."""
-        name = self.names[field_name(word)]
-        return quoted(name) if self.exact and reserved(name) else plain(name) if self.exact else name
+        return self.named[field_name(word)]
 
     def pieces(self, n):
         """A node's text, as texts and the numbers of nodes whose texts stand between them."""

@@ -50,6 +50,7 @@ fn every_operation() {
             let (mut t, root) = chain(step);
             let text = t.display(root).unwrap();
             assert!(text.len() >= NODES - 1);
+            assert_eq!(t.display_nix(root).as_ref(), Ok(&text), "a plain name");
             assert_eq!(t.free_type_vars(root), Ok(vec![0]));
             assert!(t.has_type_vars(root).unwrap());
             assert!(t.needs_var_normalization(root).unwrap());

@@ -77,6 +77,7 @@ impl Random {
             9 => t.get(ty).map(|_| ()),
             10 => t.count_reachable(ty).map(|_| ()),
             11 => t.add_names(["a", "z"]),
+            12 => t.display_nix(ty).map(|_| ()),
             _ => t.intern(self.node(t)).map(|_| ()),
         }
     }

@@ -1,6 +1,6 @@
-//! The name table, and more names for an arena that has nodes.
+//! The name table, names as the manual writes them, and more names for an arena that has nodes.
 
-use coombtray::{AttrSetTy, Field, Names, OutputTy, Refusal, TyRef, TypeArena};
+use coombtray::{sheet_line, AttrSetTy, Field, Names, OutputTy, Refusal, TyRef, TypeArena};
 
 use crate::build::*;
 
@@ -48,6 +48,89 @@ fn names_that_are_refused() {
     let many = |count: usize| Names::new((0..count).map(|number| number.to_string()));
     assert_eq!(many(256).unwrap().len(), 256);
     assert_eq!(many(257).map_err(Refusal::number), Err(1));
+}
+
+/// Names, and how the manual writes them.
+const WORKED: [(&str, &str); 13] = [
+    ("roll angle", r#""roll angle""#),
+    ("or", r#""or""#),
+    ("rec1", "rec1"),
+    ("_", "_"),
+    ("a'b-c", "a'b-c"),
+    ("9a", r#""9a""#),
+    ("-a", r#""-a""#),
+    (r#"say "hi""#, r#""say \"hi\"""#),
+    (r"a\b", r#""a\\b""#),
+    ("${x}", r#""\${x}""#),
+    ("$x", r#""$x""#),
+    ("$${", r#""$\${""#),
+    (r"\${", r#""\\\${""#),
+];
+
+/// Checks both prints of each name as a named type.
+fn are_spelled<T: AsRef<str>>(worked: &[(T, T)]) {
+    let names = Names::new(worked.iter().map(|(name, _)| name)).unwrap();
+    let mut t = TypeArena::new(names);
+    let int = int(&mut t);
+    for (name, spelled) in worked {
+        let (name, spelled) = (name.as_ref(), spelled.as_ref());
+        let named = put(&mut t, OutputTy::Named(name.into(), int));
+        assert_eq!(t.display(named).as_deref(), Ok(name));
+        assert_eq!(t.display_nix(named).as_deref(), Ok(spelled));
+    }
+}
+
+#[test]
+fn the_worked_names() {
+    are_spelled(&WORKED);
+}
+
+#[test]
+fn fields_stand_in_the_order_of_their_names() {
+    let mut worked = WORKED;
+    worked.sort();
+    let mut t = named(&worked.map(|(name, _)| name));
+    let int = int(&mut t);
+    let root = set(&mut t, &worked.map(|(name, _)| (name, int)));
+    let of = |spelled: [&str; 13]| format!("{{ {}: int }}", spelled.join(": int, "));
+    assert_eq!(t.display(root), Ok(of(worked.map(|(name, _)| name))));
+    let text = of(worked.map(|(_, spelled)| spelled));
+    let line = sheet_line(&t.write_sheet(root).unwrap());
+    assert_eq!(line, Ok(format!("1 2 {text}")));
+    assert_eq!(t.display_nix(root), Ok(text));
+}
+
+#[test]
+fn reserved_words() {
+    let mut worked = Vec::new();
+    for word in "assert else if in inherit let or rec then with".split(' ') {
+        worked.push((word.to_string(), format!("\"{word}\"")));
+        let more = format!("{word}s");
+        let others = [more, word.to_uppercase(), word[1..].to_string()];
+        worked.extend(others.map(|other| (other.clone(), other)));
+    }
+    are_spelled(&worked);
+}
+
+/// Each byte that a name may have: alone, behind a letter, and behind a dollar.
+#[test]
+fn every_byte() {
+    for front in ["", "a", "$"] {
+        let worked = (b' '..=b'~').map(char::from).map(|byte| {
+            let begins = byte.is_ascii_alphabetic() || byte == '_';
+            let goes_on = byte.is_ascii_digit() || byte == '\'' || byte == '-';
+            let plain = front != "$" && (begins || front == "a" && goes_on);
+            let name = format!("{front}{byte}");
+            let spelled = match byte {
+                _ if plain => name.clone(),
+                '"' | '\\' => format!("\"{front}\\{byte}\""),
+                '{' if front == "$" => "\"\\${\"".to_string(),
+                _ => format!("\"{name}\""),
+            };
+            (name, spelled)
+        });
+        are_spelled(&worked.collect::<Vec<_>>());
+    }
 }
 
 #[test]

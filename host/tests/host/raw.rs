@@ -57,6 +57,21 @@ type Change = unsafe extern "C" fn(
     *mut u32,
 ) -> u32;
 
+type Write = unsafe extern "C" fn(
+    *const u8,
+    usize,
+    *const u32,
+    usize,
+    *const u32,
+    usize,
+    usize,
+    usize,
+    u32,
+    *mut u8,
+    usize,
+    *mut usize,
+) -> u32;
+
 // SAFETY, for every block below: each pointer and length is that of a vector or a number that lives through the call, and
 // none that is written is passed twice.
 impl Lent {
@@ -136,30 +151,10 @@ impl Lent {
         }
     }
 
-    fn display(&mut self) -> u32 {
+    fn write(&mut self, call: Write) -> u32 {
         let (table, words, starts) = (&self.table, &self.words, &self.starts);
         unsafe {
-            ffi::lang_ty_display(
-                table.as_ptr(),
-                table.len(),
-                words.as_ptr(),
-                words.len(),
-                starts.as_ptr(),
-                starts.len(),
-                self.nodes,
-                self.used,
-                1,
-                self.bytes.as_mut_ptr(),
-                self.bytes.len(),
-                &mut self.length,
-            )
-        }
-    }
-
-    fn write_sheet(&mut self) -> u32 {
-        let (table, words, starts) = (&self.table, &self.words, &self.starts);
-        unsafe {
-            ffi::lang_ty_write_sheet(
+            call(
                 table.as_ptr(),
                 table.len(),
                 words.as_ptr(),
@@ -270,7 +265,7 @@ impl Lent {
 type Call = fn(&mut Lent) -> u32;
 
 /// Every call that is lent an arena.
-const CALLS: [Call; 17] = [
+const CALLS: [Call; 18] = [
     |l| l.read(ffi::lang_ty_count_reachable),
     |l| l.read(ffi::lang_ty_unwrap_named),
     |l| l.read(ffi::lang_ty_has_type_vars),
@@ -282,8 +277,9 @@ const CALLS: [Call; 17] = [
     |l| l.change(ffi::lang_ty_normalize_set_ops),
     Lent::compare,
     Lent::free_type_vars,
-    Lent::display,
-    Lent::write_sheet,
+    |l| l.write(ffi::lang_ty_display),
+    |l| l.write(ffi::lang_ty_display_nix),
+    |l| l.write(ffi::lang_ty_write_sheet),
     |l| l.intern(&[0]),
     Lent::simplify,
     |l| l.compact(&mut sound()),
@@ -405,11 +401,28 @@ fn results() {
     assert_eq!(lent.free_type_vars(), 0);
     assert_eq!(lent.length, 1);
     assert!(lent.vars.iter().all(|&index| index == 0), "zeros after a");
-    assert_eq!(lent.display(), 0);
+    assert_eq!(lent.write(ffi::lang_ty_display), 0);
     assert_eq!((lent.length, &lent.bytes[..8]), (3, &b"[a]PPPPP"[..]));
     assert_eq!(lent.bytes[8..], [80; 18]);
     assert_eq!(lent.simplify(), 0);
     assert_eq!(lent.told, [1, 2]);
+}
+
+#[test]
+fn two_prints_of_a_name() {
+    // Node 1 is a under the name `or`.
+    let mut lent = sound();
+    lent.table = b"\x02or".to_vec();
+    lent.words[2] = 0x9000_0001;
+    lent.bytes.truncate(4);
+    assert_eq!(lent.write(ffi::lang_ty_display), 0);
+    assert_eq!((lent.length, &lent.bytes[..]), (2, &b"orPP"[..]));
+    assert_eq!(lent.write(ffi::lang_ty_display_nix), 0);
+    assert_eq!((lent.length, &lent.bytes[..]), (4, &b"\"or\""[..]));
+    lent.bytes.truncate(3);
+    lent.length = 79;
+    assert_eq!(lent.write(ffi::lang_ty_display_nix), 9);
+    assert_eq!((lent.length, &lent.bytes[..]), (79, &[0; 3][..]));
 }
 
 /// The variable a alone, so that node 1 isn't there.

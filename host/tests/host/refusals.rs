@@ -113,6 +113,7 @@ fn six() {
             assert_eq!(number(t.compare(root, at(0))), 6);
             assert_eq!(number(t.structurally_eq(root, &t, root)), 6);
             assert_eq!(number(t.display(root)), 6);
+            assert_eq!(number(t.display_nix(root)), 6);
         }
         assert!(untouched(&t, &before));
         var(&mut t, 0);
@@ -204,6 +205,8 @@ fn eight() {
     }
 }
 
+type Print = for<'a> fn(&TypeArena, TyRef, &'a mut [u8]) -> Result<&'a str, Refusal>;
+
 #[test]
 fn nine() {
     let mut t = named(&["n".repeat(64).as_str()]);
@@ -215,31 +218,74 @@ fn nine() {
         "a node of another arena"
     );
     let inner = list(&mut t, int);
-    let mut lent = [7; 8];
-    assert_eq!(t.display_into(inner, &mut lent), Ok("[int]"));
-    assert_eq!(lent, *b"[int]\x07\x07\x07", "bytes past the text stay");
-    assert_eq!(number(t.display_into(at(9), &mut lent)), 6);
-    assert_eq!(lent, *b"[int]\x07\x07\x07", "as lent");
-    assert_eq!(number(t.display_into(inner, &mut lent[..4])), 9);
-    assert_eq!(lent, *b"\0\0\0\0]\x07\x07\x07", "zero throughout");
-    assert_eq!(t.display_into(inner, &mut lent[..5]), Ok("[int]"));
-    assert_eq!(number(t.display_into(inner, &mut [])), 9);
+    let prints: [Print; 2] = [TypeArena::display_into, TypeArena::display_nix_into];
+    for print in prints {
+        let mut lent = [7; 8];
+        assert_eq!(print(&t, inner, &mut lent), Ok("[int]"));
+        assert_eq!(lent, *b"[int]\x07\x07\x07", "bytes past the text stay");
+        assert_eq!(number(print(&t, at(9), &mut lent)), 6);
+        assert_eq!(lent, *b"[int]\x07\x07\x07", "as lent");
+        assert_eq!(number(print(&t, inner, &mut lent[..4])), 9);
+        assert_eq!(lent, *b"\0\0\0\0]\x07\x07\x07", "zero throughout");
+        assert_eq!(print(&t, inner, &mut lent[..5]), Ok("[int]"));
+        assert_eq!(number(print(&t, inner, &mut [])), 9);
+    }
+}
+
+#[test]
+fn the_longest_name() {
+    let name = "\"".repeat(64);
+    let mut t = named(&[name.as_str()]);
+    let int = int(&mut t);
+    let ty = put(&mut t, OutputTy::Named(name.clone(), int));
+    let text = format!("\"{}\"", "\\\"".repeat(64));
+    assert_eq!(text.len(), 130);
+    let mut lent = [7; 132];
+    assert_eq!(t.display_into(ty, &mut lent[..64]), Ok(name.as_str()));
+    assert_eq!(number(t.display_nix_into(ty, &mut lent[..129])), 9);
+    assert_eq!(lent[..129], [0; 129]);
+    assert_eq!(lent[129..], [7; 3]);
+    let printed = t.display_nix_into(ty, &mut lent[..130]);
+    assert_eq!(printed, Ok(text.as_str()));
+    assert_eq!(lent[130..], [7; 2], "bytes past the text stay");
+}
+
+/// The length of a text, or the number of its refusal.
+fn length(text: Result<String, Refusal>) -> Result<usize, u32> {
+    text.map(|text| text.len()).map_err(Refusal::number)
 }
 
 #[test]
 fn the_longest_text() {
-    // 4,096 copies of a name with three bytes between them: 65,533 bytes, and 69,629.
-    for (length, refused) in [(13, 0), (14, 9)] {
-        let mut t = named(&["n".repeat(length).as_str()]);
+    // Twelve lambdas, each of the one before it twice, over a name: 4,096 of it with five bytes each, less six, which the
+    // brackets of three lists are. A name that begins with a digit has two bytes more by the manual.
+    for (bytes, bare, nix) in [
+        (9, Ok(57_344), Ok(65_536)),
+        (10, Ok(61_440), Err(9)),
+        (11, Ok(65_536), Err(9)),
+        (12, Err(9), Err(9)),
+    ] {
+        let name = "9".repeat(bytes);
+        let mut t = named(&[name.as_str()]);
         let int = int(&mut t);
-        let mut ty = put(&mut t, OutputTy::Named("n".repeat(length), int));
+        let mut ty = put(&mut t, OutputTy::Named(name, int));
         for _ in 0..12 {
-            ty = union(&mut t, &[ty, ty]);
+            ty = lambda(&mut t, ty, ty);
         }
-        let text = t.display(ty);
-        assert_eq!(text.as_ref().err().map_or(0, |r| r.number()), refused);
-        let bytes = text.map_or(0, |text| text.len());
-        assert!(refused != 0 || bytes == 4_096 * (length + 3) - 3);
+        for _ in 0..3 {
+            ty = list(&mut t, ty);
+        }
+        assert_eq!(length(t.display(ty)), bare);
+        assert_eq!(length(t.display_nix(ty)), nix);
+        let line = sheet_line(&t.write_sheet(ty).unwrap());
+        assert_eq!(length(line), nix.map(|length| length + "16 2 ".len()));
+        let longer = put(&mut t, OutputTy::Neg(ty));
+        let one_more = |length| match length {
+            65_536 => Err(9),
+            _ => Ok(length + 1),
+        };
+        assert_eq!(length(t.display(longer)), bare.and_then(one_more));
+        assert_eq!(length(t.display_nix(longer)), nix.and_then(one_more));
     }
 }
 
