@@ -1,7 +1,7 @@
 -- The refusals in their order: the source's 1 and 2, the target's 2, then 6. They leave the target as lent.
 use Prim.Native.Nat.{ℕ, _<_, _≤_}
-use mathlib.Core.Path.{_≡_, refl, sym, ap, _∙_}
-use mathlib.Core.Bool.{Bool, true, false, _||_}
+use mathlib.Core.Path.{_≡_, sym, ap, _∙_}
+use mathlib.Core.Bool.{true, false}
 use mathlib.Core.List.{List}
 use native.Mathlib.Omega.{arith}
 use lib.ListN.{length}
@@ -11,7 +11,7 @@ use Rattle.types.specs.Out.{Out, ok, refuse}
 use Rattle.types.specs.Arena.{Arena}
 use Rattle.types.specs.Reply.{rooted}
 use Rattle.types.specs.declared.Counters.{Counters}
-use Rattle.types.proofs.Tests.{true-false}
+use Rattle.types.proofs.Tests.{neither}
 use Rattle.types.proofs.Memories.{unique}
 use Rattle.types.proofs.Replies.{rooted-no, rooted-yes}
 use Rattle.names.specs.Table.{Name}
@@ -34,11 +34,6 @@ module _ {A : Type 0} (tw ts : List ℕ) (o : Out A) where
   within : over-limit tw ts ≡ false → limited tw ts o ≡ o
   unfolding limited
   within h = rw (limited, h)
-
--- neither of two tests passes
-neither : (a b : Bool) → (a || b) ≡ false → (a ≡ false) × (b ≡ false)
-neither true b e = absurd (true-false e)
-neither false b e = (refl, e)
 
 pub clear-ready : {w s : List ℕ} {c : Counters} {root : ℕ} {tw ts : List ℕ} → Lent w s c → over-limit tw ts ≡ false → {x : ℕ} → x ≡ root → x < c .nodes → ClearReady w s c root tw ts
 clear-ready {tw = tw} {ts} L h e l =

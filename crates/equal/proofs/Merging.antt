@@ -14,11 +14,11 @@ use lib.Seq.{drop-cons, take-at, drop-at, getD-set-same, getD-set-other}
 use Rattle.types.specs.Order.{reversed}
 use Rattle.types.specs.declared.Ordering.{Ordering}
 use Rattle.types.specs.declared.Ordering.the-variants.{Less, Equal, Greater}
-use Rattle.types.proofs.Orders.{order-less}
+use Rattle.types.proofs.Orders.{less-equal, order-less}
 use Rattle.names.specs.Table.{Name, table, name-order, names-of}
 use Rattle.names.specs.Inner.{name-end}
 use Rattle.names.proofs.Tables.{names-of-is}
-use Rattle.names.proofs.Numbers.{name-order-total, number-order, names-few}
+use Rattle.names.proofs.Numbers.{name-order-total, told-differs, number-order, names-few}
 use Rattle.names.proofs.Walking.{part, entry}
 use Rattle.equal.specs.declared.matching.Reading.{Reading}
 use Rattle.equal.specs.Inner.Names.{Matches, Maps, Blank, Place, Read, Next, Steps}
@@ -87,10 +87,7 @@ module _ {t : List ℕ} {ns : List Name} {i at : ℕ} (P : Place t ns i at) wher
 
 -- ---- names by their order
 less-differs : (x y : Name) → name-order x y ≡ Less → x ≡ y → ⊥
-less-differs x y h e =
-    let r = name-order-total .refl-equal x in
-    let s : name-order x y ≡ name-order x x = ap (name-order x) (sym e) in
-    let z : _≡_ {A = ℕ} 0 1 = cc in omega arith
+less-differs x y h = told-differs x y (λ e. less-equal (sym h ∙ e))
 
 greater-less : (x y : Name) → name-order x y ≡ Greater → name-order y x ≡ Less
 unfolding reversed

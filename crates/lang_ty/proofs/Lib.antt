@@ -5,3 +5,4 @@ pub mod Works
 pub mod Successes
 pub mod Copies
 pub mod Needing
+pub mod Prints

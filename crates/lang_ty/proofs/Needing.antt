@@ -1,24 +1,21 @@
 -- `needs_var_normalization` is `has_type_vars`: a variable is listed exactly if a path of children leads to one.
 use Prim.Native.Nat.{ℕ, _<_}
-use mathlib.Core.Path.{_≡_, refl, sym, ap, _∙_}
-use mathlib.Core.Bool.{Bool, true, false}
+use mathlib.Core.Path.{_≡_, refl, sym, ap}
+use mathlib.Core.Bool.{true, false}
 use mathlib.Core.List.{List, [], _∷_}
 use mathlib.Core.Logic.{_⊎_, inl, inr}
 use lib.ListN.{length}
 use borrow.Author.Tests.{eq-eqb, eqb-true}
-use Rattle.types.specs.Out.{ok}
 use Rattle.types.specs.Kind.{disc}
 use Rattle.types.specs.Node.{positive, tag, kind}
 use Rattle.types.specs.Arena.{Arena, at, sound}
-use Rattle.types.specs.declared.Counters.{Counters}
 use Rattle.types.proofs.Tests.{true-false, same-truth}
 use Rattle.node_reading.specs.Nodes.{is-var}
-use Rattle.walks.specs.Asked.{ask-reply}
 use Rattle.walks.proofs.Reaching.{or-right}
 use Rattle.walks.proofs.Counting.{or-cases, or-left}
 use Rattle.questions.specs.Vars as vars
 use Rattle.questions.specs.Vars.{has-var, has-type-vars}
-use Rattle.questions.proofs.Ways.{Way, refused, answered, way}
+use Rattle.questions.proofs.Ways.{asked-alike}
 use Rattle.questions.proofs.VarPlaces.{var-walk, walk-var, walk-place, place-walk}
 use Rattle.free_vars.specs.FreeVars.{contains, free-type-vars}
 use Rattle.free_vars.proofs.Occurrences.{kind-var}
@@ -62,13 +59,9 @@ module _ (table : ℕ) (a : Arena) (h : sound table a ≡ true) (root : ℕ) (l 
   needs-is : needs-var-normalization a root ≡ has-type-vars a root
   needs-is = same-truth (needs-var-normalization a root) (has-type-vars a root) needed has
 
--- ---- asked of any memory
-asked : (t w s : List ℕ) (c : Counters) (root : ℕ) → ask-reply needs-var-normalization t w s c root ≡ ask-reply has-type-vars t w s c root
-asked t w s c root = go (way t w s c root)
-  where
-    go : Way t w s c root → ask-reply needs-var-normalization t w s c root ≡ ask-reply has-type-vars t w s c root
-    go (refused e f) = f Bool needs-var-normalization ∙ sym (f Bool has-type-vars)
-    go (answered table a H l f) = f Bool needs-var-normalization ∙ ap ok (needs-is table a (H .good) root l) ∙ sym (f Bool has-type-vars)
-
+-- ---- also asked of any memory
 pub needs-is-has : NeedsIsHas
-needs-is-has = record { is = needs-is; answer = asked }
+needs-is-has = record {
+  is = needs-is;
+  answer = λ t w s c root. asked-alike t w s c root needs-var-normalization has-type-vars (λ table a H l. needs-is table a (H .good) root l);
+}

@@ -12,11 +12,14 @@ use Rattle.compact.specs.Compact.{compact-reply}
 use Rattle.lang_ty.specs.Told.{told, tell, told-arena, tell-arena}
 use Rattle.lang_ty.specs.Numbered.{Numbered, ZeroIsValue, answer-of, length-of}
 use Rattle.types.specs.Arena.{Arena, sound}
+use Rattle.types.specs.Memory.{Holds}
 use Rattle.walks.specs.Asked.{ask-reply}
 use Rattle.questions.specs.Vars.{has-type-vars}
+use Rattle.names.specs.Table.{split}
 use Rattle.names.specs.Reply.{table-reply, name-reply}
 use Rattle.arena.specs.Intern.{intern-reply}
 use Rattle.arena.specs.Compare.{compare-reply}
+use Rattle.text_writing.specs.Theorems.{PlainType}
 use Rattle.display.specs.Reply.{display-reply, display-nix-reply}
 use Rattle.sheet_writing.specs.Reply.{write-sheet-reply}
 use Rattle.recursion.specs.Hosted.{work-reply}
@@ -46,6 +49,13 @@ pub record NeedsIsHas : Type 0 where
       → needs-var-normalization a root ≡ has-type-vars a root
   pub answer : (t w s : List ℕ) (c : Counters) (root : ℕ)
       → ask-reply needs-var-normalization t w s c root ≡ ask-reply has-type-vars t w s c root
+
+-- of a type all of whose names are plain `display` and `display_nix` answer and leave the same, in any lent memory (02, A1)
+abbrev pub PlainPrintsAlike : Type 0
+PlainPrintsAlike =
+    (t w s : List ℕ) (c : Counters) (root : ℕ) (b : List ℕ)
+    → ((table : ℕ) (a : Arena) → Holds table w s c a → PlainType (split t) a root)
+    → display-nix-reply t w s c root b ≡ display-reply t w s c root b
 
 -- of what each call is defined to answer the number is 0 exactly for a value, and at most 10. A call that is never refused isn't listed: it
 -- always answers 0

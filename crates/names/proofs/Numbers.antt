@@ -22,6 +22,10 @@ pub name-order-total : TotalOrder name-order
 unfolding name-order
 name-order-total = lexicographic-total order-total
 
+-- names that aren't told to be the same differ
+pub told-differs : (m n : Name) → (name-order m n ≡ Equal → ⊥) → m ≡ n → ⊥
+told-differs m n f e = f (ap (name-order m) (sym e) ∙ name-order-total .refl-equal m)
+
 pub less-true : (o : Ordering) → is-less o ≡ true → o ≡ Less
 less-true Less e = refl
 less-true Equal e = absurd (true-false (sym e))

@@ -1,6 +1,6 @@
 -- A question about any memory is refused, whatever it asks, or answered of a root in an arena that memory holds.
 use Prim.Native.Nat.{ℕ, _<_}
-use mathlib.Core.Path.{_≡_, refl, _∙_}
+use mathlib.Core.Path.{_≡_, refl, sym, ap, _∙_}
 use mathlib.Core.List.{List}
 use mathlib.Core.Option.{Option, none, some}
 use native.Mathlib.Decide.{decLt}
@@ -60,3 +60,12 @@ module _ (t w s : List ℕ) (c : Counters) (root : ℕ) where
       go : (o : Option (List Name)) → names-of t ≡ o → Way t w s c root
       go none p = refused 1 (λ A q. no-names q p)
       go (some ns) p = memory ns p (arena-of (length ns) w s c) refl
+
+  -- two questions that agree on every arena that memory may hold are answered alike
+  pub asked-alike : {A : Type 0} (q r : Arena → ℕ → A) → ((table : ℕ) (a : Arena) → Holds table w s c a → root < length a → q a root ≡ r a root)
+      → ask-reply q t w s c root ≡ ask-reply r t w s c root
+  asked-alike {A} q r h = go way
+    where
+      go : Way t w s c root → ask-reply q t w s c root ≡ ask-reply r t w s c root
+      go (refused e f) = f A q ∙ sym (f A r)
+      go (answered table a H l f) = f A q ∙ ap ok (h table a H l) ∙ sym (f A r)

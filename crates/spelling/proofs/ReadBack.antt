@@ -3,12 +3,12 @@
 -- with a `$` that follows, so the induction shows of each name what it reads as, and what it reads as behind a `$`.
 use Prim.Native.Nat.{ℕ}
 use mathlib.Core.Path.{_≡_, refl, sym, ap, ap₂, _∙_}
-use mathlib.Core.Bool.{Bool, true, false, _&&_, _||_}
+use mathlib.Core.Bool.{Bool, true, false, _&&_}
 use mathlib.Core.List.{List, [], _∷_, _++_, append-nil, append-assoc}
 use mathlib.Core.Option.{Option, none, some}
 use lib.Dec.{eqb}
 use borrow.Author.Tests.{eqb-true}
-use Rattle.types.proofs.Tests.{true-false, and-true, both, not-true}
+use Rattle.types.proofs.Tests.{true-false, and-true, both, neither, not-true}
 use Rattle.names.specs.Table.{Name}
 use Rattle.spelling.specs.Spelling.{begins, continues, all-continue, identifier, plain, braced, backslashed, escaped-byte, escaped, quoted, nix-name}
 use Rattle.spelling.specs.Reading.{Read, with-front, unescaped, string-step, read-string, read-word, read-identifier, read-name, goes-on}
@@ -18,11 +18,6 @@ use Rattle.spelling.proofs.Spellings.{nix-name-is}
 -- this name was read, and this stands behind it
 abbrev got : Name → List ℕ → Option Read
 got n r = some (record { name = n; rest = r })
-
--- ---- tests
-or-false : (x y : Bool) → (x || y) ≡ false → (x ≡ false) × (y ≡ false)
-or-false true y e = absurd (true-false e)
-or-false false y e = (refl, e)
 
 -- ---- how a string is read, byte by byte
 end-read : (r : List ℕ) → read-string (34 ∷ r) ≡ got [] r
@@ -76,7 +71,7 @@ record Unmarked (b : ℕ) (bs : List ℕ) : Type 0 where
 
 unmarked : (b : ℕ) (bs : List ℕ) → backslashed (b ∷ bs) ≡ false → Unmarked b bs
 unfolding backslashed
-unmarked b bs e = let p = or-false (eqb b 34) _ e in let q = or-false (eqb b 92) _ (p .1) in record { quote = p .0; backslash = q .0; dollar = q .1 }
+unmarked b bs e = let p = neither (eqb b 34) _ e in let q = neither (eqb b 92) _ (p .1) in record { quote = p .0; backslash = q .0; dollar = q .1 }
 
 -- ---- a name in quotes
 record ReadsAs (n : Name) (r : List ℕ) : Type 0 where

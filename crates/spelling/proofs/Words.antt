@@ -10,26 +10,22 @@ use Rattle.types.specs.Bytes.{bytes}
 use Rattle.types.specs.Same.{same-numbers}
 use Rattle.types.specs.declared.Ordering.{Ordering}
 use Rattle.types.specs.declared.Ordering.the-variants.{Less, Equal, Greater}
-use Rattle.types.proofs.Orders.{order-total, lexicographic-total, less-equal, equal-greater}
+use Rattle.types.proofs.Orders.{less-equal, equal-greater}
 use Rattle.types.proofs.Tests.{numbers-if, numbers-not}
 use Rattle.names.specs.Table.{Name, name-order}
+use Rattle.names.proofs.Numbers.{name-order-total, told-differs}
 use Rattle.spelling.specs.Spelling.{one-of, reserved-words, reserved}
 
 -- ---- two names are the same exactly where they are told so
-same-order : (m n : Name) → m ≡ n → name-order m n ≡ Equal
-unfolding name-order
-same-order m n e = ap (name-order m) (sym e) ∙ lexicographic-total order-total .refl-equal m
-
 module _ (m n : Name) {o : Ordering} (e : o ≡ name-order m n) where
   pub told-same : o ≡ Equal → true ≡ same-numbers m n
-  unfolding name-order
-  told-same q = sym (numbers-if m n (lexicographic-total order-total .equal m n (sym e ∙ q)))
+  told-same q = sym (numbers-if m n (name-order-total .equal m n (sym e ∙ q)))
 
   pub told-before : o ≡ Less → false ≡ same-numbers m n
-  told-before q = sym (numbers-not m n (λ p. less-equal (sym q ∙ e ∙ same-order m n p)))
+  told-before q = sym (numbers-not m n (told-differs m n (λ p. less-equal (sym q ∙ e ∙ p))))
 
   pub told-after : o ≡ Greater → false ≡ same-numbers m n
-  told-after q = sym (numbers-not m n (λ p. equal-greater (sym (same-order m n p) ∙ sym e ∙ q)))
+  told-after q = sym (numbers-not m n (told-differs m n (λ p. equal-greater (sym p ∙ sym e ∙ q))))
 
 -- ---- only words as long as the name can be the same
 -- those that have k bytes

@@ -10,7 +10,6 @@ use lib.Seq.{drop-cons}
 use Rattle.names.specs.Table.{Name}
 use Rattle.spelling.specs.Spelling.{plain, backslashed, escaped-byte, escaped, quoted, nix-name, spelled}
 use Rattle.spelling.specs.declared.Spelling.{Spelling}
-use Rattle.spelling.specs.declared.Spelling.the-variants as spelling
 use Rattle.spelling.proofs.Spellings.{nix-name-is}
 use Rattle.text_writing.specs.Text.{when}
 use Rattle.text_writing.specs.Inner.Writes.{Writes}
@@ -69,20 +68,11 @@ module _ {n : List ℕ} where
         let all : E .so-far ≡ escaped n = sym (append-nil (E .so-far)) ∙ ap (λ (l : List ℕ). E .so-far ++ escaped l) (sym (drop-of-length-le n h)) ∙ E .left in
         subst (λ (x : List ℕ). Writes b₀ end₀ x b end) all (E .written)
 
--- ---- in quotes or not
-module _ (n : Name) {r : Bool} (e : r ≡ plain n) {b : List ℕ} {c : ℕ} {b′ : List ℕ} {end : ℕ} where
-  pub nix-bare : r ≡ true → Writes b c n b′ end → Writes b c (nix-name n) b′ end
-  nix-bare q W = subst (λ (x : List ℕ). Writes b c x b′ end) (sym (nix-name-is n (sym e ∙ q))) W
+-- ---- the name as it is spelled, told by a test and by the spelling
+pub nix-written : (t : Bool) (n : Name) {r : Bool} → r ≡ plain n → r ≡ t
+    → {b : List ℕ} {c : ℕ} {b′ : List ℕ} {end : ℕ} → Writes b c (elim t as (λ _. List ℕ) [ true ↦ n | false ↦ quoted n ]) b′ end → Writes b c (nix-name n) b′ end
+nix-written t n e q {b} {c} {b′} {end} W = subst (λ (x : List ℕ). Writes b c x b′ end) (sym (nix-name-is n (sym e ∙ q))) W
 
-  pub nix-quoted : r ≡ false → Writes b c (quoted n) b′ end → Writes b c (nix-name n) b′ end
-  nix-quoted q W = subst (λ (x : List ℕ). Writes b c x b′ end) (sym (nix-name-is n (sym e ∙ q))) W
-
--- ---- the two spellings
-module _ {sp : Spelling} (n : Name) {b : List ℕ} {c : ℕ} {b′ : List ℕ} {end : ℕ} where
-  pub spelled-bare : sp ≡ spelling.Bare → Writes b c n b′ end → Writes b c (spelled sp n) b′ end
-  unfolding spelled
-  spelled-bare q W = subst (λ (x : Spelling). Writes b c (spelled x n) b′ end) (sym q) W
-
-  pub spelled-nix : sp ≡ spelling.Nix → Writes b c (nix-name n) b′ end → Writes b c (spelled sp n) b′ end
-  unfolding spelled
-  spelled-nix q W = subst (λ (x : Spelling). Writes b c (spelled x n) b′ end) (sym q) W
+pub spelled-written : (so : Spelling) (n : Name) {sp : Spelling} → sp ≡ so
+    → {b : List ℕ} {c : ℕ} {b′ : List ℕ} {end : ℕ} → Writes b c (spelled so n) b′ end → Writes b c (spelled sp n) b′ end
+spelled-written so n q {b} {c} {b′} {end} W = subst (λ (x : Spelling). Writes b c (spelled x n) b′ end) (sym q) W

@@ -1,7 +1,7 @@
 -- What computed tests say.
 use Prim.Native.Nat.{ℕ}
 use mathlib.Core.Path.{_≡_, refl, sym}
-use mathlib.Core.Bool.{Bool, true, false, _&&_, decide}
+use mathlib.Core.Bool.{Bool, true, false, _&&_, _||_, decide}
 use mathlib.Core.List.{List}
 use native.Mathlib.Omega.{arith}
 use Rattle.types.specs.Same.{same, numbers-dec, same-numbers}
@@ -15,6 +15,11 @@ and-true false y e = absurd (true-false (sym e))
 
 pub both : {x y : Bool} → x ≡ true → y ≡ true → (x && y) ≡ true
 both p q = rw (p, q)
+
+-- neither of two tests passes
+pub neither : (x y : Bool) → (x || y) ≡ false → (x ≡ false) × (y ≡ false)
+neither true y e = absurd (true-false e)
+neither false y e = (refl, e)
 
 pub not-true : (x : Bool) → (x ≡ true → ⊥) → x ≡ false
 not-true true f = absurd (f refl)

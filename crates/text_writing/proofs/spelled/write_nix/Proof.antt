@@ -1,5 +1,6 @@
 -- In quotes unless the name is plain.
-use Rattle.text_writing.proofs.SpelledNames.{nix-bare, nix-quoted}
+use mathlib.Core.Bool.{true, false}
+use Rattle.text_writing.proofs.SpelledNames.{nix-written}
 use borrow.Author.Needs.{needs}
 use Rattle.text_writing.proofs.spelled.write_nix.Statement.{statement}
 use Rattle.text_writing.proofs.spelled.write_nix.Tie as tie
@@ -14,7 +15,7 @@ same-length : tie.Need-same-length
 same-length c = search needs
 
 returns : tie.Need-returns
-returns c = search nix-bare
+returns c = search (nix-written true)
 
 write-quoted-requires : tie.Need-write-quoted-requires
 write-quoted-requires c κs = search needs
@@ -23,7 +24,7 @@ same-length-2 : tie.Need-same-length-2
 same-length-2 c = search needs
 
 returns-2 : tie.Need-returns-2
-returns-2 c = search nix-quoted
+returns-2 c = search (nix-written false)
 
 pub write-nix-spec : {M : Type 1} → statement M
 write-nix-spec =

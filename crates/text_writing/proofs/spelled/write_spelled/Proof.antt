@@ -1,5 +1,7 @@
 -- By the spelling.
-use Rattle.text_writing.proofs.SpelledNames.{spelled-bare, spelled-nix}
+use Rattle.spelling.specs.Spelling.{spelled}
+use Rattle.spelling.specs.declared.Spelling.the-variants as spelling
+use Rattle.text_writing.proofs.SpelledNames.{spelled-written}
 use borrow.Author.Needs.{needs}
 use Rattle.text_writing.proofs.spelled.write_spelled.Statement.{statement}
 use Rattle.text_writing.proofs.spelled.write_spelled.Tie as tie
@@ -20,13 +22,15 @@ same-length : tie.Need-same-length
 same-length c = search needs
 
 returns : tie.Need-returns
-returns c = search spelled-bare
+unfolding spelled
+returns c = search (spelled-written spelling.Bare)
 
 same-length-2 : tie.Need-same-length-2
 same-length-2 c = search needs
 
 returns-2 : tie.Need-returns-2
-returns-2 c = search spelled-nix
+unfolding spelled
+returns-2 c = search (spelled-written spelling.Nix)
 
 pub write-spelled-spec : {M : Type 1} → statement M
 write-spelled-spec =
