@@ -19,10 +19,12 @@ use Rattle.types.proofs.Memories.{unique}
 use Rattle.names.specs.Table.{Name, split}
 use Rattle.node_store.specs.Inner.Stored.{InRange, NodeAt}
 use Rattle.spelling.specs.declared.Spelling.{Spelling}
-use Rattle.text_writing.specs.Text.{when, beginning, parens, before, ending, shown, Printed, child-text, child-texts, node-text, type-text}
-use Rattle.text_writing.specs.Inner.Writes.{Writes, IsFormed}
+use Rattle.appending.specs.Parts.{when}
+use Rattle.text_writing.specs.Text.{beginning, parens, before, ending, shown, Printed, child-text, child-texts, node-text, type-text}
+use Rattle.appending.specs.Inner.{Writes}
+use Rattle.text_writing.specs.Inner.Formed.{IsFormed}
 use Rattle.text_writing.specs.Inner.Children.{ChildOf, encloses, IsChild, Opens, Closes}
-use Rattle.text_writing.proofs.Appending.{writes-nothing, writes-over, writes-then, writes-three}
+use Rattle.appending.proofs.Appending.{writes-nothing, writes-over, writes-then, writes-three}
 use Rattle.text_writing.proofs.Childhood.{child-below, child-range}
 use Rattle.text_writing.proofs.Tags.{formed-guess}
 use Rattle.display.specs.Inner.{Prints}

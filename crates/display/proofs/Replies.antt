@@ -22,7 +22,7 @@ use Rattle.walks.specs.Inner.Asked.{Says, Answers}
 use Rattle.walks.proofs.Asking.{root-out, root-in, ask-refused, ask-done}
 use Rattle.spelling.specs.declared.Spelling.{Spelling}
 use Rattle.text_writing.specs.Text.{type-text}
-use Rattle.text_writing.specs.Inner.Writes.{Writes}
+use Rattle.appending.specs.Inner.{Writes}
 use Rattle.display.specs.Inner.{Prints}
 use Rattle.display.specs.Reply.{reply, displaying, reply-of, print-reply, left}
 use Rattle.display.specs.Inner.{Displays, DisplaysRoot}

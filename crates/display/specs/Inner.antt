@@ -8,7 +8,7 @@ use Rattle.types.specs.declared.Counters.{Counters}
 use Rattle.names.specs.Table.{split}
 use Rattle.spelling.specs.declared.Spelling.{Spelling}
 use Rattle.text_writing.specs.Text.{type-text}
-use Rattle.text_writing.specs.Inner.Writes.{Writes}
+use Rattle.appending.specs.Inner.{Writes}
 use Rattle.walks.specs.Asked.{asking}
 use Rattle.display.specs.declared.Displayed.{Displayed}
 use Rattle.display.specs.Reply.{displaying, reply-of, left}

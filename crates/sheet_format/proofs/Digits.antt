@@ -10,7 +10,7 @@ use Rattle.types.specs.Inner.{text, appended, Room}
 use Rattle.types.specs.declared.short_text.ShortText.{ShortText}
 use Rattle.types.proofs.Decimals.{decimal-length}
 use Rattle.types.proofs.Shorts.{text-short, appended-short, room-of}
-use Rattle.text_writing.specs.Inner.Writes.{Writes}
+use Rattle.appending.specs.Inner.{Writes}
 
 pub few-digits : (n : ℕ) → n < 2 ^ 32 → length (decimal n) ≤ 10
 few-digits n h = decimal-length 9 n (omega arith)

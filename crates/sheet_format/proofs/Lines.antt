@@ -9,8 +9,8 @@ use Rattle.types.specs.Out.{Out, ok, refuse}
 use Rattle.types.specs.Bytes.{bytes}
 use Rattle.types.specs.Decimal.{decimal}
 use Rattle.types.proofs.Decimals.{decimal-length}
-use Rattle.text_writing.specs.Inner.Writes.{Writes}
-use Rattle.text_writing.proofs.Appending.{writes-then}
+use Rattle.appending.specs.Inner.{Writes}
+use Rattle.appending.proofs.Appending.{writes-then}
 use Rattle.sheet_format.specs.Line.{Outcome, type-line, refused-line, line-of, sheet-answer, sheet-line}
 use Rattle.sheet_format.specs.Inner.{Gives, type, refused, AnswersSheet}
 use Rattle.sheet_format.specs.Line.{WritesLine}

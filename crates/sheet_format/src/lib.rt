@@ -1,5 +1,6 @@
 // The line of a sheet: the sheet is read, the type of its root simplified and printed, with names as the Nix manual writes
 // them. specs/Line.antt says what the line is.
+use appending::append;
 use display::Displayed;
 use display::display_in;
 use sheet_reading::Reading;
@@ -7,14 +8,13 @@ use sheet_reading::read_sheet;
 use simplify::Simplified;
 use simplify::simplify_in;
 use spelling::Spelling;
-use text_writing::append;
 use text_writing::pieces::write_short;
 use types::Counters;
 use types::short_text::ShortText;
 ghost use mathlib.Core.List.{_++_};
 ghost use Rattle.types.specs.Bytes.{bytes};
 ghost use Rattle.types.specs.Decimal.{decimal};
-ghost use Rattle.text_writing.specs.Inner.Writes.{Writes};
+ghost use Rattle.appending.specs.Inner.{Writes};
 ghost use Rattle.sheet_format.specs.Line.{type-line, refused-line};
 ghost use Rattle.sheet_format.specs.Inner.{SheetIn, AnswersType, Empty, AnswersSheet};
 ghost use Rattle.sheet_format.specs.Line.{WritesLine};

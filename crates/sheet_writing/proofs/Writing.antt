@@ -10,8 +10,8 @@ use lib.Seq.{take-suc, take-all, take-length}
 use lib.Dec.{leb}
 use borrow.Author.Tests.{le-leb, lt-leb, leb-true, leb-false, not-true, not-false}
 use Rattle.types.specs.Out.{ok}
-use Rattle.text_writing.specs.Inner.Writes.{Writes}
-use Rattle.text_writing.proofs.Appending.{writes-nothing, writes-then, writes-three}
+use Rattle.appending.specs.Inner.{Writes}
+use Rattle.appending.proofs.Appending.{writes-nothing, writes-then, writes-three}
 use Rattle.display.specs.Reply.{reply}
 use Rattle.sheet_writing.specs.Bytes.{number-bytes, words-bytes, opening-bytes}
 use Rattle.sheet_writing.specs.Reply.{fitting, reply-of}

@@ -1,13 +1,13 @@
 // A sheet written from lent memory into lent bytes; `write_sheet` is the call open to a host. specs/Bytes.antt says what the
 // bytes of a sheet are, specs/Theorems.antt that reading takes exactly these, specs/Reply.antt what the call answers and leaves.
+use appending::append;
 use soundness::Judged;
 use soundness::judge;
-use text_writing::append;
 use types::Counters;
 use types::arc_ty::wide;
 ghost use mathlib.Core.Path.{_≡_};
 ghost use Prim.Native.Nat.{_%_};
-ghost use Rattle.text_writing.specs.Inner.Writes.{Writes};
+ghost use Rattle.appending.specs.Inner.{Writes};
 ghost use Rattle.sheet_writing.specs.Bytes.{number-bytes, opening-bytes, words-bytes};
 ghost use Rattle.sheet_writing.specs.Inner.{FitsBytes, WritesParts, Known, WritesRoot};
 ghost use Rattle.sheet_writing.specs.Reply.{write-sheet-reply, left};

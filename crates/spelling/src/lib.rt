@@ -1,6 +1,6 @@
 // How a name is printed: as it stands in the table, or as the Nix manual writes it, in quotes unless it is an identifier that
 // isn't reserved. specs/Spelling.antt says which names stand in quotes and what they have there, specs/Reading.antt how the
-// manual reads them, and specs/Theorems.antt that it reads what is written. text_writing::spelled writes them.
+// manual reads them, and specs/Theorems.antt that it reads what is written. appending::spelled writes them.
 use names::compare;
 use types::Ordering;
 ghost use Prim.Native.Nat.{_<_};

@@ -22,8 +22,10 @@ use Rattle.node_store.specs.Inner.Stored.{InRange, NodeAt}
 use Rattle.node_store.specs.Inner.Children.{ChildWords}
 use Rattle.node_reading.specs.Inner.{KindAt}
 use Rattle.node_store.proofs.Offspring.{as-many, child-is}
-use Rattle.text_writing.specs.Text.{when, parens, before}
-use Rattle.text_writing.specs.Inner.Writes.{Writes, IsFormed}
+use Rattle.appending.specs.Parts.{when}
+use Rattle.text_writing.specs.Text.{parens, before}
+use Rattle.appending.specs.Inner.{Writes}
+use Rattle.text_writing.specs.Inner.Formed.{IsFormed}
 use Rattle.text_writing.specs.Inner.Children.{ChildOf, encloses, IsChild, Encloses, Opens, Closes}
 
 module _ {w s : List ℕ} {c : Counters} {n i : ℕ} (C : ChildOf w s c n i) where

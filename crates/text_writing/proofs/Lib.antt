@@ -1,5 +1,3 @@
-pub mod Appending
-pub mod SpelledNames
 pub mod Tags
 pub mod NodePieces
 pub mod Childhood

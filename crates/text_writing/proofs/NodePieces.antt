@@ -26,9 +26,11 @@ use Rattle.spelling.specs.declared.Spelling.{Spelling}
 use Rattle.node_order.proofs.Splits.{body-lent}
 use Rattle.node_store.specs.Inner.Children.{ChildWords}
 use Rattle.node_store.proofs.Offspring.{as-many}
-use Rattle.text_writing.specs.Text.{when, between, beginning, separator, field-text, field-label, label, parens, set-ending, ending, shown}
-use Rattle.text_writing.specs.Inner.Writes.{Writes, IsFormed}
-use Rattle.text_writing.proofs.Appending.{writes-nothing, writes-then, writes-three}
+use Rattle.appending.specs.Parts.{when, between}
+use Rattle.text_writing.specs.Text.{beginning, separator, field-text, field-label, label, parens, set-ending, ending, shown}
+use Rattle.appending.specs.Inner.{Writes}
+use Rattle.text_writing.specs.Inner.Formed.{IsFormed}
+use Rattle.appending.proofs.Appending.{writes-nothing, writes-then, writes-three}
 use Rattle.text_writing.proofs.Tags.{said, tag-said, kind-said}
 
 -- the same bytes written as another text

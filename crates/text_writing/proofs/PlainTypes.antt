@@ -17,7 +17,8 @@ use Rattle.names.specs.Table.{Name}
 use Rattle.spelling.specs.Spelling.{plain}
 use Rattle.spelling.specs.declared.Spelling.the-variants as spelling
 use Rattle.spelling.proofs.Spellings.{plain-alike}
-use Rattle.text_writing.specs.Text.{when, beginning, separator, field-text, field-label, label, parens, ending, shown, between, Printed, before, child-text, child-texts, node-text, type-text}
+use Rattle.appending.specs.Parts.{when, between}
+use Rattle.text_writing.specs.Text.{beginning, separator, field-text, field-label, label, parens, ending, shown, Printed, before, child-text, child-texts, node-text, type-text}
 use Rattle.text_writing.specs.Theorems.{PlainTypeAlike}
 
 module _ (ns : List Name) where

@@ -12,7 +12,7 @@ use Rattle.types.specs.Node.{Tag, Node, tag, kind, tag-of, guess-kind, guess}
 use Rattle.types.proofs.KindNumbers.{kind-of-disc}
 use Rattle.types.proofs.Nodes.{guess-encode}
 use Rattle.node_reading.proofs.NodeReads.{kind-encode}
-use Rattle.text_writing.specs.Inner.Writes.{IsFormed}
+use Rattle.text_writing.specs.Inner.Formed.{IsFormed}
 
 -- the tag that words with a head of kind k say
 abbrev pub said : Kind → List ℕ → Tag

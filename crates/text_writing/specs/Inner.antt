@@ -1,2 +1,2 @@
 pub mod Children
-pub mod Writes
+pub mod Formed

@@ -15,16 +15,7 @@ use Rattle.types.specs.Arena.{Arena, fold}
 use Rattle.names.specs.Table.{Name}
 use Rattle.spelling.specs.Spelling.{spelled}
 use Rattle.spelling.specs.declared.Spelling.{Spelling}
-
--- a text that is written only under a condition
-unfoldable pub when : Bool → List ℕ → List ℕ
-when true x = x
-when false x = []
-
--- what stands before child i where something separates the children: nothing before the first
-unfoldable pub between : List ℕ → ℕ → List ℕ
-between x zero = []
-between x (suc i) = x
+use Rattle.appending.specs.Parts.{when, between}
 
 -- what begins the text of a node; for a node without children it is the whole text, and so for a named type, whose child isn't printed
 unfoldable pub beginning : Spelling → List Name → Tag → List ℕ

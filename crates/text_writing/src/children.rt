@@ -1,7 +1,7 @@
 // What stands round a child of a stored node.
-use crate::append_if;
 use crate::pieces::in_parens;
 use crate::pieces::write_before;
+use appending::append_if;
 use node_reading::nodes::kind_at;
 use node_store::children::child_words;
 use node_store::stored::node_at;

@@ -1,8 +1,8 @@
 // The pieces of a node's text, read off the words of the node.
-use crate::append;
-use crate::append_after;
-use crate::append_if;
-use crate::spelled::write_spelled;
+use appending::append;
+use appending::append_after;
+use appending::append_if;
+use appending::spelled::write_spelled;
 use names::name_at;
 use node_reading::nodes::kind_in;
 use node_store::children::child_words;
@@ -27,9 +27,11 @@ ghost use Rattle.types.specs.Node.{tag, tag-of, guess};
 ghost use Rattle.types.specs.Fault.{children-in};
 ghost use Rattle.names.specs.Table.{split, name-text};
 ghost use Rattle.spelling.specs.Spelling.{spelled};
-ghost use Rattle.text_writing.specs.Text.{between, beginning, separator, field-text, label, parens, before, set-ending, ending};
+ghost use Rattle.appending.specs.Parts.{between};
+ghost use Rattle.appending.specs.Inner.{Writes};
+ghost use Rattle.text_writing.specs.Text.{beginning, separator, field-text, label, parens, before, set-ending, ending};
 ghost use Rattle.text_writing.specs.Text.{shown};
-ghost use Rattle.text_writing.specs.Inner.Writes.{Writes, IsFormed};
+ghost use Rattle.text_writing.specs.Inner.Formed.{IsFormed};
 
 // The first word of a body, 0 where it has none.
 fn first_word(body: &[u32]) -> u32

@@ -1,5 +1,5 @@
 -- The number, then the space.
-use Rattle.text_writing.proofs.Appending.{writes-then}
+use Rattle.appending.proofs.Appending.{writes-then}
 use borrow.Author.Needs.{needs}
 use Rattle.sheet_format.proofs.append_number.Statement.{statement}
 use Rattle.sheet_format.proofs.append_number.Tie as tie

@@ -13,8 +13,9 @@ use Rattle.types.specs.declared.Counters.{Counters}
 use Rattle.names.specs.Table.{split}
 use Rattle.spelling.specs.declared.Spelling.{Spelling}
 use Rattle.node_store.specs.Inner.Stored.{Lent}
-use Rattle.text_writing.specs.Text.{when, parens, before}
-use Rattle.text_writing.specs.Inner.Writes.{Writes}
+use Rattle.appending.specs.Parts.{when}
+use Rattle.text_writing.specs.Text.{parens, before}
+use Rattle.appending.specs.Inner.{Writes}
 
 -- memory holds an arena whose node n has a child i
 pub record ChildOf (w s : List ℕ) (c : Counters) (n i : ℕ) : Type 0 where

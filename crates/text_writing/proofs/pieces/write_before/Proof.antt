@@ -1,6 +1,6 @@
 -- Three texts, one behind another.
 use Rattle.text_writing.specs.Text.{before}
-use Rattle.text_writing.proofs.Appending.{writes-three}
+use Rattle.appending.proofs.Appending.{writes-three}
 use borrow.Author.Needs.{needs}
 use Rattle.text_writing.proofs.pieces.write_before.Statement.{statement}
 use Rattle.text_writing.proofs.pieces.write_before.Tie as tie

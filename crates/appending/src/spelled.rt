@@ -7,7 +7,7 @@ use spelling::plain;
 ghost use Prim.Native.Nat.{_<_};
 ghost use lib.ListN.{length, getD, drop};
 ghost use Rattle.spelling.specs.Spelling.{backslashed, escaped-byte, escaped, quoted, nix-name, spelled};
-ghost use Rattle.text_writing.specs.Inner.Writes.{Writes};
+ghost use Rattle.appending.specs.Inner.{Writes};
 
 // Byte i of a name in quotes.
 fn write_byte(name: &[u8], i: usize, text: &mut [u8], count: usize) -> usize

@@ -1,11 +1,9 @@
--- What the functions that write into lent bytes ask and answer. A count of bytes over their number says that the text so far didn't fit.
+-- What the functions that write into lent bytes answer. A count of bytes over their number says that the text so far didn't fit.
 use Prim.Native.Nat.{ℕ, _+_, _≤_, _<_}
 use mathlib.Core.Path.{_≡_}
-use mathlib.Core.Bool.{true}
 use mathlib.Core.List.{List}
 use lib.ListN.{length}
 use lib.Seq.{paste}
-use Rattle.types.specs.Node.{Node, encode, formed}
 
 -- the text x is put behind the first `count` of the bytes b, which gives the bytes b′ and a count of `end`; where it doesn't fit
 -- the count says so and the bytes are free, but as many
@@ -14,9 +12,3 @@ pub record Writes (b : List ℕ) (count : ℕ) (x b′ : List ℕ) (end : ℕ) :
   pub put : count + length x ≤ length b → b′ ≡ paste b count x (length x)
   pub fits : count + length x ≤ length b → end ≡ count + length x
   pub full : length b < count + length x → length b < end
-
--- the words of a node that is formed
-pub record IsFormed (ws : List ℕ) : Type 0 where
-  pub view : Node
-  pub words : ws ≡ encode view
-  pub good : formed view ≡ true

@@ -1,8 +1,8 @@
 -- Nothing before the first child, the bytes before any other.
-use Rattle.text_writing.proofs.Appending.{writes-first, writes-later}
+use Rattle.appending.proofs.Appending.{writes-first, writes-later}
 use borrow.Author.Needs.{needs}
-use Rattle.text_writing.proofs.append_after.Statement.{statement}
-use Rattle.text_writing.proofs.append_after.Tie as tie
+use Rattle.appending.proofs.append_after.Statement.{statement}
+use Rattle.appending.proofs.append_after.Tie as tie
 
 returns : tie.Need-returns
 returns c = search writes-first

@@ -1,10 +1,10 @@
 -- The invariant: i bytes are copied, and no other byte is changed.
 use Prim.Native.Nat.{_-_}
 use lib.ListN.{length}
-use Rattle.text_writing.proofs.Appending.{writes-over, writes-full, Copying, copying-start, copying-more, copying-done}
+use Rattle.appending.proofs.Appending.{writes-over, writes-full, Copying, copying-start, copying-more, copying-done}
 use borrow.Author.Needs.{needs}
-use Rattle.text_writing.proofs.append.Statement.{statement}
-use Rattle.text_writing.proofs.append.Tie as tie
+use Rattle.appending.proofs.append.Statement.{statement}
+use Rattle.appending.proofs.append.Tie as tie
 
 abbrev Inv-loop : tie.InvT-loop
 Inv-loop text₀ count bytes i₀ text i = Copying text₀ count bytes text i

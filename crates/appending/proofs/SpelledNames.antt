@@ -11,9 +11,9 @@ use Rattle.names.specs.Table.{Name}
 use Rattle.spelling.specs.Spelling.{plain, backslashed, escaped-byte, escaped, quoted, nix-name, spelled}
 use Rattle.spelling.specs.declared.Spelling.{Spelling}
 use Rattle.spelling.proofs.Spellings.{nix-name-is}
-use Rattle.text_writing.specs.Text.{when}
-use Rattle.text_writing.specs.Inner.Writes.{Writes}
-use Rattle.text_writing.proofs.Appending.{writes-nothing, writes-then}
+use Rattle.appending.specs.Parts.{when}
+use Rattle.appending.specs.Inner.{Writes}
+use Rattle.appending.proofs.Appending.{writes-nothing, writes-then}
 
 -- ---- one byte
 escaped-is : (so : Bool) (b : ℕ) → when so (92 ∷ []) ++ (b ∷ []) ≡ escaped-byte so b

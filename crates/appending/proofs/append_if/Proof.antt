@@ -1,8 +1,8 @@
 -- The bytes, or nothing.
-use Rattle.text_writing.proofs.Appending.{writes-when, writes-unless}
+use Rattle.appending.proofs.Appending.{writes-when, writes-unless}
 use borrow.Author.Needs.{needs}
-use Rattle.text_writing.proofs.append_if.Statement.{statement}
-use Rattle.text_writing.proofs.append_if.Tie as tie
+use Rattle.appending.proofs.append_if.Statement.{statement}
+use Rattle.appending.proofs.append_if.Tie as tie
 
 append-requires : tie.Need-append-requires
 append-requires c κs = search needs

@@ -1,10 +1,10 @@
 -- The invariant: what was written, then the bytes from i on, are all of it.
 use Prim.Native.Nat.{_-_}
 use lib.ListN.{length}
-use Rattle.text_writing.proofs.SpelledNames.{Escaping, escaping-start, escaping-more, escaping-done}
+use Rattle.appending.proofs.SpelledNames.{Escaping, escaping-start, escaping-more, escaping-done}
 use borrow.Author.Needs.{needs}
-use Rattle.text_writing.proofs.spelled.write_escaped.Statement.{statement}
-use Rattle.text_writing.proofs.spelled.write_escaped.Tie as tie
+use Rattle.appending.proofs.spelled.write_escaped.Statement.{statement}
+use Rattle.appending.proofs.spelled.write_escaped.Tie as tie
 
 abbrev Inv-loop : tie.InvT-loop
 Inv-loop name text₀ count end₀ i₀ text end i = Escaping name text₀ count text end i

@@ -8,8 +8,8 @@ use native.Mathlib.Numerals.{add-one}
 use native.Mathlib.Decide.{decLe}
 use lib.ListN.{length, getD, take, drop, set, length-set, length-append}
 use lib.Seq.{paste, paste-zero, paste-suc, take-paste, drop-paste, drop-drop, take-length}
-use Rattle.text_writing.specs.Text.{when, between}
-use Rattle.text_writing.specs.Inner.Writes.{Writes}
+use Rattle.appending.specs.Parts.{when, between}
+use Rattle.appending.specs.Inner.{Writes}
 
 -- ---- no bytes, and no room
 module _ {b : List ℕ} {c : ℕ} where

@@ -1,10 +1,10 @@
 -- By the spelling.
 use Rattle.spelling.specs.Spelling.{spelled}
 use Rattle.spelling.specs.declared.Spelling.the-variants as spelling
-use Rattle.text_writing.proofs.SpelledNames.{spelled-written}
+use Rattle.appending.proofs.SpelledNames.{spelled-written}
 use borrow.Author.Needs.{needs}
-use Rattle.text_writing.proofs.spelled.write_spelled.Statement.{statement}
-use Rattle.text_writing.proofs.spelled.write_spelled.Tie as tie
+use Rattle.appending.proofs.spelled.write_spelled.Statement.{statement}
+use Rattle.appending.proofs.spelled.write_spelled.Tie as tie
 
 enum-told : tie.Need-enum-told
 enum-told c = search needs

@@ -1,9 +1,9 @@
 -- In quotes unless the name is plain.
 use mathlib.Core.Bool.{true, false}
-use Rattle.text_writing.proofs.SpelledNames.{nix-written}
+use Rattle.appending.proofs.SpelledNames.{nix-written}
 use borrow.Author.Needs.{needs}
-use Rattle.text_writing.proofs.spelled.write_nix.Statement.{statement}
-use Rattle.text_writing.proofs.spelled.write_nix.Tie as tie
+use Rattle.appending.proofs.spelled.write_nix.Statement.{statement}
+use Rattle.appending.proofs.spelled.write_nix.Tie as tie
 
 plain-requires : tie.Need-plain-requires
 plain-requires c κs = search needs

@@ -1,8 +1,8 @@
 -- A backslash or nothing, then the byte.
-use Rattle.text_writing.proofs.SpelledNames.{byte-written}
+use Rattle.appending.proofs.SpelledNames.{byte-written}
 use borrow.Author.Needs.{needs}
-use Rattle.text_writing.proofs.spelled.write_byte.Statement.{statement}
-use Rattle.text_writing.proofs.spelled.write_byte.Tie as tie
+use Rattle.appending.proofs.spelled.write_byte.Statement.{statement}
+use Rattle.appending.proofs.spelled.write_byte.Tie as tie
 
 backslashed-requires : tie.Need-backslashed-requires
 backslashed-requires c κs = search needs

@@ -1,9 +1,9 @@
 -- Three texts, one behind another.
 use Rattle.spelling.specs.Spelling.{quoted}
-use Rattle.text_writing.proofs.Appending.{writes-three}
+use Rattle.appending.proofs.Appending.{writes-three}
 use borrow.Author.Needs.{needs}
-use Rattle.text_writing.proofs.spelled.write_quoted.Statement.{statement}
-use Rattle.text_writing.proofs.spelled.write_quoted.Tie as tie
+use Rattle.appending.proofs.spelled.write_quoted.Statement.{statement}
+use Rattle.appending.proofs.spelled.write_quoted.Tie as tie
 
 slice-aggregate-append : tie.Need-slice-aggregate-append
 slice-aggregate-append c = search needs
