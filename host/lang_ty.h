@@ -15,10 +15,9 @@
 #define LANG_TY_VERSION_MINOR 1
 #define LANG_TY_VERSION_PATCH 0
 
-/* The most names of a table and the bytes of the longest one, the most words and starts of an arena, and bytes of the text
- * of a type and of a sheet. */
-#define LANG_TY_NAMES 256
-#define LANG_TY_TABLE 16640
+/* The most names and bytes of a table, words and starts of an arena, and bytes of the text of a type and of a sheet. */
+#define LANG_TY_NAMES 4096
+#define LANG_TY_TABLE 65536
 #define LANG_TY_WORDS 16384
 #define LANG_TY_STARTS 4096
 #define LANG_TY_TEXT 65536
@@ -48,7 +47,8 @@ enum lang_ty_answer {
     LANG_TY_NO_ROOM = 7,
     LANG_TY_TOO_MANY_MEMBERS = 8,
     LANG_TY_TOO_LONG = 9,
-    LANG_TY_BAD_SHEET = 10
+    LANG_TY_BAD_SHEET = 10,
+    LANG_TY_BAD_OLD_SHEET = 11
 };
 
 /* The kinds of nodes, under the Rust's names; `never` is the bottom and `any` the top. */
@@ -233,7 +233,7 @@ uint32_t lang_ty_compact(
     uint32_t *target_words, size_t target_words_len, uint32_t *target_starts, size_t target_starts_len,
     size_t *target_nodes, size_t *target_used, uint32_t *root_after);
 
-/* Texts that need no arena. They are never refused. */
+/* Calls that need no arena. Only the last is ever refused. */
 
 /* How a variable is printed, zeros after it. */
 uint32_t lang_ty_tyvar_name(
@@ -242,6 +242,12 @@ uint32_t lang_ty_tyvar_name(
 /* The line of a sheet, its text as lang_ty_display_nix writes it; that of a refused sheet names the number. */
 uint32_t lang_ty_sheet_line(
     const uint8_t *sheet, size_t sheet_len, uint8_t line[LANG_TY_LINE], size_t *len);
+
+/* One whole old sheet, whose field words have 8 bits for the name, becomes the new one in its place: nothing but field words
+ * changes, and the length stays. 11: the old rules refuse the sheet before simplification; then all bytes stay. A sheet that
+ * is new already is refused so, or stays as it is. */
+uint32_t lang_ty_convert_sheet(
+    uint8_t *sheet, size_t sheet_len);
 
 #ifdef __cplusplus
 }
@@ -272,7 +278,7 @@ static inline uint32_t lang_ty_child(uint32_t number)
 /* A field: the number of its name and that of its type. The word of a named type is that of a field that isn't optional. */
 static inline uint32_t lang_ty_field(uint32_t name, uint32_t child, bool optional)
 {
-    return name < LANG_TY_NAMES && child < LANG_TY_STARTS ? (uint32_t)optional << 31 | name << 23 | child : LANG_TY_NO_WORD;
+    return name < 65536 && child < LANG_TY_STARTS ? (uint32_t)optional << 31 | name << 15 | child : LANG_TY_NO_WORD;
 }
 
 static inline uint32_t lang_ty_kind_of(uint32_t head)
@@ -304,7 +310,7 @@ static inline uint32_t lang_ty_child_of(uint32_t word)
 
 static inline uint32_t lang_ty_name_of(uint32_t field)
 {
-    return field >> 23 & 255;
+    return field >> 15 & 65535;
 }
 
 static inline bool lang_ty_is_optional(uint32_t field)
@@ -327,6 +333,7 @@ static inline const char *lang_ty_sentence(uint32_t answer)
         "refused 8, caused by the size of the work: a member list would have a 65th different member",
         "refused 9, caused by the size of the work: the text or the sheet exceeds the lent bytes, or 65,536 bytes",
         "refused 10, caused by the sender of the sheet: it ends early, goes on, is too long or repeats a node",
+        "refused 11, caused by the sender of the old sheet: the rules of old sheets refuse it before simplification",
     };
     return answer < sizeof sentences / sizeof *sentences ? sentences[answer] : "no answer of this library";
 }

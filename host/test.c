@@ -1,6 +1,6 @@
 /* Calls every function of lang_ty.h and checks its answer, its results and all lent memory. What is expected was worked out
- * by hand from document 01. Each call is told on standard output by its name and its answer, so that host/test-c sees which
- * were made. */
+ * by hand from documents 01 and 02. Each call is told on standard output by its name and its answer, so that host/test-c sees
+ * which were made. */
 #include "lang_ty.h"
 
 #include <inttypes.h>
@@ -355,7 +355,7 @@ static const uint8_t example[] = {0, 0, 0, 3, 0, 2, 0x30, 0, 0, 1, 0, 0, 0, 0, 0
 #define EXAMPLE WORDS(VAR(0), INT, UNION(2), 0, 1)
 /* The names p and qr, the unknown variable, and a set with it under qr. */
 static const uint8_t with_names[] = {0, 2, 0, 2, 0, 1, 1, 'p', 2, 'q', 'r', 0x30, 0, 0, 1, 255,
-                                     255, 255, 255, 0x60, 0, 0, 1, 0, 0x80, 0, 0};
+                                     255, 255, 255, 0x60, 0, 0, 1, 0, 0, 0x80, 0};
 /* The name or, the variable a, and a set with it under or. */
 static const uint8_t with_or[] = {0, 1, 0, 2, 0, 1, 2, 'o', 'r', 0x30, 0, 0, 1, 0, 0, 0, 0, 0x60, 0, 0, 1, 0, 0, 0, 0};
 #define SHEET_OF(bytes) .sheet = bytes, .sheet_len = sizeof bytes
@@ -369,14 +369,15 @@ static void check_words(void)
     WORD(lang_ty_set_head(64, true, true), 0x6c000041);
     WORD(lang_ty_set_head(3, false, true), 0x64000004);
     WORD(lang_ty_child(4095), 0xfff);
-    WORD(lang_ty_field(255, 4095, true), 0xff800fff);
-    WORD(lang_ty_field(1, 2, false), 0x00800002);
+    WORD(lang_ty_field(65535, 4095, true), 0xffff8fff);
+    WORD(lang_ty_field(4095, 4095, false), 0x07ff8fff);
+    WORD(lang_ty_field(1, 2, false), 0x00008002);
     WORD(lang_ty_head(16, 0), LANG_TY_NO_WORD);
     WORD(lang_ty_head(0, 65536), LANG_TY_NO_WORD);
     WORD(lang_ty_set_head(65536, false, false), LANG_TY_NO_WORD);
     WORD(lang_ty_set_head(4294967295, false, true), LANG_TY_NO_WORD);
     WORD(lang_ty_child(4096), LANG_TY_NO_WORD);
-    WORD(lang_ty_field(256, 0, false), LANG_TY_NO_WORD);
+    WORD(lang_ty_field(65536, 0, false), LANG_TY_NO_WORD);
     WORD(lang_ty_field(0, 4096, false), LANG_TY_NO_WORD);
     WORD(lang_ty_kind_of(0xa5a5a5a5), 10);
     WORD(lang_ty_count_of(0xa5a5a5a5), 0xa5a5);
@@ -385,7 +386,7 @@ static void check_words(void)
     WORD(lang_ty_is_dynamic(0xfbffffff), 0);
     WORD(lang_ty_is_dynamic(0x04000000), 1);
     WORD(lang_ty_child_of(0xa5a5a5a5), 0x5a5);
-    WORD(lang_ty_name_of(0xa5a5a5a5), 0x4b);
+    WORD(lang_ty_name_of(0xa5a5a5a5), 0x4b4b);
     WORD(lang_ty_is_optional(0x7fffffff), 0);
     WORD(lang_ty_is_optional(0x80000000), 1);
 }
@@ -393,13 +394,13 @@ static void check_words(void)
 /* Each sentence begins with its own number; tests/host/header.rs holds the rest against the crate's. */
 static void check_sentences(void)
 {
-    for (uint32_t answer = LANG_TY_BAD_TABLE; answer <= LANG_TY_BAD_SHEET; answer++) {
+    for (uint32_t answer = LANG_TY_BAD_TABLE; answer <= LANG_TY_BAD_OLD_SHEET; answer++) {
         char begins[32];
         int length = snprintf(begins, sizeof begins, "refused %" PRIu32 ", caused by ", answer);
         check(__LINE__, begins, strncmp(lang_ty_sentence(answer), begins, (size_t)length), 0);
     }
     check(__LINE__, "the sentence of 0", strcmp(lang_ty_sentence(LANG_TY_OK), "not refused"), 0);
-    check(__LINE__, "the sentence of 11", strcmp(lang_ty_sentence(11), "no answer of this library"), 0);
+    check(__LINE__, "the sentence of 12", strcmp(lang_ty_sentence(12), "no answer of this library"), 0);
 }
 
 #define RUN(what, ...) run(&(const struct row){.line = __LINE__, .call = &what, __VA_ARGS__})
@@ -549,7 +550,12 @@ static void check_nodes(void)
     RUN(intern, .given = FULL, .node = WORDS(VAR(77)), .number = 77);
     RUN(intern, .given = FULL, .node = WORDS(VAR(77)), .spare_starts = 1, .answer = LANG_TY_BAD_ARENA);
     RUN(intern, .given = A_OR_INT, .node = WORDS(LIST(4096)), .spare_words = 2, .spare_starts = 1, .answer = LANG_TY_BAD_NODE);
-    RUN(intern, .given = A_OR_INT, .node = WORDS(NAMED(256, 0)), .spare_words = 2, .spare_starts = 1, .answer = LANG_TY_BAD_NODE);
+    RUN(intern, .given = A_OR_INT, .node = WORDS(NAMED(65536, 0)), .spare_words = 2, .spare_starts = 1, .answer = LANG_TY_BAD_NODE);
+    RUN(intern, .given = A_OR_INT, .node = WORDS(NAMED(65535, 0)), .spare_words = 2, .spare_starts = 1,
+        .answer = LANG_TY_BAD_CHILD_OR_NAME);
+    for (uint32_t zero = 0x1000; zero < 0x8000; zero *= 2)
+        RUN(intern, .table = P_AND_Q, .given = SHARED, .node = WORDS(SET(1), FIELD(1, 0) | zero), .spare_words = 2, .spare_starts = 1,
+            .answer = LANG_TY_BAD_NODE);
 }
 
 static void check_simplify(void)
@@ -621,9 +627,14 @@ static void fill_table(char *table, int count, int size)
 
 static void check_tables(void)
 {
-    static char most[257 * 3], longest[LANG_TY_TABLE];
-    fill_table(most, 257, 2);
-    fill_table(longest, 256, 64);
+    /* 4,096 names of 15 bytes, and 1,008 of 64 with one of 15, are 65,536 bytes. */
+    static char most[4097 * 3], full[LANG_TY_TABLE], longest[LANG_TY_TABLE], longer[LANG_TY_TABLE + 1];
+    fill_table(most, 4097, 2);
+    fill_table(full, 4096, 15);
+    fill_table(longest, 1008, 64);
+    memcpy(longest + 1008 * 65, "\17~~~~~~~~~~~~~~~", 16);
+    memcpy(longer, longest, LANG_TY_TABLE);
+    memcpy(longer + 1008 * 65, "\20~~~~~~~~~~~~~~~~", 17);
     const struct {
         int line;
         const char *table;
@@ -633,10 +644,12 @@ static void check_tables(void)
     } tables[] = {
         {__LINE__, "", 0, LANG_TY_OK, 0},
         {__LINE__, LINE_AND_TARGET, 12, LANG_TY_OK, 2},
-        {__LINE__, most, 256 * 3, LANG_TY_OK, LANG_TY_NAMES},
-        {__LINE__, most, 257 * 3, LANG_TY_BAD_TABLE, 0},
-        {__LINE__, longest, LANG_TY_TABLE, LANG_TY_OK, LANG_TY_NAMES},
-        {__LINE__, longest, LANG_TY_TABLE - 1, LANG_TY_BAD_TABLE, 0},
+        {__LINE__, most, 4096 * 3, LANG_TY_OK, LANG_TY_NAMES},
+        {__LINE__, most, 4097 * 3, LANG_TY_BAD_TABLE, 0},
+        {__LINE__, full, LANG_TY_TABLE, LANG_TY_OK, LANG_TY_NAMES},
+        {__LINE__, full, LANG_TY_TABLE - 1, LANG_TY_BAD_TABLE, 0},
+        {__LINE__, longest, LANG_TY_TABLE, LANG_TY_OK, 1009},
+        {__LINE__, longer, LANG_TY_TABLE + 1, LANG_TY_BAD_TABLE, 0},
         {__LINE__, "\1p\1p", 4, LANG_TY_BAD_TABLE, 0},
         {__LINE__, "\1\37", 2, LANG_TY_BAD_TABLE, 0},
         {__LINE__, "\0", 1, LANG_TY_BAD_TABLE, 0},
@@ -722,6 +735,7 @@ static void check_tyvar_names(void)
 
 static void check_sheets(void)
 {
+    static const uint8_t counts[] = {0x10, 0, 0x10, 1, 0, 0, 0, 0};
     static const struct {
         int line;
         const uint8_t *sheet;
@@ -731,7 +745,8 @@ static void check_sheets(void)
         {__LINE__, example, sizeof example, "1 2 int\n"},
         {__LINE__, example, sizeof example - 1, "refused 10\n"},
         {__LINE__, with_or, sizeof with_or, "1 2 { \"or\": a }\n"},
-        {__LINE__, example + 3, 6, "refused 1\n"}, /* 768 names */
+        {__LINE__, counts, 6, "refused 10\n"},    /* 4,096 names, of which none is there */
+        {__LINE__, counts + 2, 6, "refused 1\n"}, /* 4,097 names */
     };
     for (size_t k = 0; k < COUNT(sheets); k++) {
         uint8_t *line = room(2 * LANG_TY_LINE), *want = line + LANG_TY_LINE;
@@ -742,6 +757,54 @@ static void check_sheets(void)
         check(sheets[k].line, "length", length, strlen(sheets[k].answer));
         check_bytes(sheets[k].line, "line", line, want, LANG_TY_LINE);
         free(line);
+    }
+}
+
+/* Converts the sheet in memory of its size, which must answer so and leave these bytes. */
+static void convert(int line, const uint8_t *sheet, const uint8_t *want, size_t len, uint32_t answer)
+{
+    uint8_t *lent = room(len);
+    memcpy(lent, sheet, len);
+    check(line, "answer", TOLD(lang_ty_convert_sheet, lent, len), answer);
+    check_bytes(line, "sheet", lent, want, len);
+    free(lent);
+}
+
+/* The names p and q, a, q as a name for a, and an open set with a under p, that under q, which is optional, and a for all other
+ * fields. The two bytes have the number of q, by the old layout or the new. */
+#define SHEET_WITH_Q(high, low) \
+    {0, 2, 0, 3, 0, 2, 1, 'p', 1, 'q', 0x30, 0, 0, 1, 0, 0, 0, 0, 0x90, 0, 0, 1, 0, high, low, 0, \
+     0x6c, 0, 0, 3, 0, 0, 0, 0, 0x80, high, low, 1, 0, 0, 0, 0}
+
+static void check_converted(void)
+{
+    static const uint8_t old[] = SHEET_WITH_Q(0x80, 0), new[] = SHEET_WITH_Q(0, 0x80), zeros[LANG_TY_SHEET + 1];
+    static const struct {
+        int line;
+        size_t place;
+        uint8_t byte;
+    } damages[] = {
+        {__LINE__, 0, 1},     /* 258 names, which the old rules refuse by 1 */
+        {__LINE__, 6, 0},     /* 1: a name without bytes */
+        {__LINE__, 18, 0xb0}, /* 3: a kind */
+        {__LINE__, 24, 0x10}, /* 3: a zero field */
+        {__LINE__, 25, 1},    /* 4: a child */
+        {__LINE__, 22, 1},    /* 4: a name, the fourth */
+        {__LINE__, 35, 0},    /* 5: p twice */
+        {__LINE__, 5, 3},     /* 6 */
+        {__LINE__, 3, 4},     /* 10: a fourth node is missing */
+    };
+    convert(__LINE__, old, new, sizeof old, LANG_TY_OK);
+    convert(__LINE__, new, new, sizeof new, LANG_TY_BAD_OLD_SHEET);
+    convert(__LINE__, example, example, sizeof example, LANG_TY_OK);
+    for (size_t len = 0; len < sizeof old; len++)
+        convert(__LINE__, old, old, len, LANG_TY_BAD_OLD_SHEET);
+    convert(__LINE__, zeros, zeros, sizeof zeros, LANG_TY_BAD_OLD_SHEET);
+    for (size_t k = 0; k < COUNT(damages); k++) {
+        uint8_t sheet[sizeof old];
+        memcpy(sheet, old, sizeof old);
+        sheet[damages[k].place] = damages[k].byte;
+        convert(damages[k].line, sheet, sheet, sizeof sheet, LANG_TY_BAD_OLD_SHEET);
     }
 }
 
@@ -767,5 +830,6 @@ int main(void)
     check_names();
     check_tyvar_names();
     check_sheets();
+    check_converted();
     return failures != 0;
 }

@@ -8,7 +8,9 @@ use std::hint::black_box;
 use std::process::{Command, Stdio};
 use std::thread;
 
-use coombtray::{sheet_line, AttrSetTy, Field, Names, OutputTy, PrimitiveTy, TyRef, TypeArena};
+use coombtray::{
+    convert_sheet, sheet_line, AttrSetTy, Field, Names, OutputTy, PrimitiveTy, TyRef, TypeArena,
+};
 
 /// Six nodes are left free, so that a call can rebuild some nodes at the bottom before there is no more room.
 const NODES: usize = 4_090;
@@ -61,7 +63,7 @@ const CHAINS: [(&str, Step); 10] = [
 ];
 
 /// A refusal by 7 counts as well: it comes after the recursion is at its deepest.
-const OPERATIONS: [(&str, Operation); 20] = [
+const OPERATIONS: [(&str, Operation); 21] = [
     ("intern", |a, r| a.intern(OutputTy::List(r)).is_ok()),
     ("get", |a, r| a.get(r).is_ok()),
     ("compare", |a, r| a.compare(r, first()).is_ok()),
@@ -91,6 +93,10 @@ const OPERATIONS: [(&str, Operation); 20] = [
     ("write_sheet", |a, r| a.write_sheet(r).is_ok()),
     ("sheet_line", |a, r| {
         sheet_line(&a.write_sheet(r).expect("it fits")).is_ok()
+    }),
+    // The one name is the first, so that the sheet is an old one too.
+    ("convert_sheet", |a, r| {
+        convert_sheet(&mut a.write_sheet(r).expect("it fits")).is_ok()
     }),
 ];
 

@@ -1,7 +1,9 @@
 //! The calls of the static library, one to one with `lang_ty.h`. docs/HOST.md says what each asks of its pointers and
 //! leaves in memory; the rest of this crate needs nothing of this module from its user.
 
-/// The most words and starts of an arena, and bytes of the text of a type and of a sheet.
+/// The most names and bytes of a table, words and starts of an arena, and bytes of the text of a type and of a sheet.
+pub const NAMES: usize = 4_096;
+pub const TABLE: usize = 65_536;
 pub const WORDS: usize = 16_384;
 pub const STARTS: usize = 4_096;
 pub const TEXT: usize = 65_536;
@@ -302,4 +304,6 @@ extern "C" {
         line: *mut [u8; LINE],
         len: *mut usize,
     ) -> u32;
+
+    pub fn lang_ty_convert_sheet(sheet: *mut u8, sheet_len: usize) -> u32;
 }

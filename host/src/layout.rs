@@ -22,8 +22,8 @@ pub const OPEN: u32 = 1 << 27;
 pub const DYNAMIC: u32 = 1 << 26;
 pub const OPTIONAL: u32 = 1 << 31;
 
-const NAME_AT: u32 = 23;
-const NAME: u32 = 0xff << NAME_AT;
+const NAME_AT: u32 = 15;
+const NAME: u32 = 0xffff << NAME_AT;
 
 /// The head of a node with so many words after it.
 pub fn head(kind: u32, count: usize) -> u32 {

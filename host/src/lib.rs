@@ -36,5 +36,5 @@ pub use arena::{Simplified, TypeArena};
 pub use names::Names;
 pub use refusal::Refusal;
 pub use stack::{on_large_stack, STACK};
-pub use texts::{compare_names, sheet_line, tyvar_name};
+pub use texts::{compare_names, convert_sheet, sheet_line, tyvar_name};
 pub use types::{AttrSetTy, Field, OutputTy, PrimitiveTy, TyRef};

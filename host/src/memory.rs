@@ -3,8 +3,6 @@
 //! the borrow is mutable, and each length is that slice's. So no pointer is null, nothing that is written overlaps
 //! another argument, and all of it is initialised. The library keeps no pointer, and no call of it unwinds.
 
-use std::ops::Range;
-
 use crate::ffi;
 use crate::{Names, Refusal};
 
@@ -412,16 +410,6 @@ pub(crate) fn check_names(table: &[u8]) -> Reply<usize> {
     Refusal::judge(answer).map(|()| count)
 }
 
-/// Where the text of the name with this number lies in the table.
-pub(crate) fn name_at(table: &[u8], number: u32) -> Reply<Range<usize>> {
-    let (mut start, mut length) = (0, 0);
-    // SAFETY: see the head of this file.
-    let answer = unsafe {
-        ffi::lang_ty_name_at(table.as_ptr(), table.len(), number, &mut start, &mut length)
-    };
-    Refusal::judge(answer).map(|()| start..start + length)
-}
-
 /// One of `ffi::LESS`, `ffi::EQUAL` and `ffi::GREATER`. It is never refused.
 pub(crate) fn compare_names(left: &[u8], right: &[u8]) -> u32 {
     let mut order = 0;
@@ -454,4 +442,10 @@ pub(crate) fn sheet_line(sheet: &[u8]) -> Vec<u8> {
     // SAFETY: see the head of this file.
     unsafe { ffi::lang_ty_sheet_line(sheet.as_ptr(), sheet.len(), &mut *line, &mut length) };
     line[..length].to_vec()
+}
+
+pub(crate) fn convert_sheet(sheet: &mut [u8]) -> Reply<()> {
+    // SAFETY: see the head of this file.
+    let answer = unsafe { ffi::lang_ty_convert_sheet(sheet.as_mut_ptr(), sheet.len()) };
+    Refusal::judge(answer)
 }

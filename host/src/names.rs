@@ -3,32 +3,32 @@ use std::ops::Range;
 use crate::memory;
 use crate::Refusal;
 
-/// The names that the nodes of an arena may use, at most 256: sorted bytewise, each once.
+/// The names that the nodes of an arena may use, at most 4,096: sorted bytewise, each once.
 #[derive(Debug, Clone, Default, PartialEq, Eq)]
 pub struct Names {
     table: Vec<u8>,
-    /// Where the text of each name lies in the table, as the library says.
+    /// Where the text of each name lies in the table.
     places: Vec<Range<usize>>,
 }
 
 impl Names {
-    /// The table of these names in any order, repeats allowed; 1 if there are over 256 of them, or one isn't 1 to 64
-    /// bytes from 32 to 126.
+    /// The table of these names in any order, repeats allowed; 1 if one isn't 1 to 64 bytes from 32 to 126, or if there
+    /// are over 4,096 of them, or over 65,536 bytes with a length byte for each.
     pub fn new<T: AsRef<str>>(names: impl IntoIterator<Item = T>) -> Result<Names, Refusal> {
         let texts = names.into_iter().map(|name| name.as_ref().to_string());
         let mut texts: Vec<String> = texts.collect();
         texts.sort();
         texts.dedup();
-        let mut table = Vec::new();
+        let (mut table, mut places) = (Vec::new(), Vec::new());
         for text in &texts {
             // The library refuses a length of 255, so a longer name isn't taken for a short one.
             table.push(u8::try_from(text.len()).unwrap_or(u8::MAX));
+            let start = table.len();
             table.extend(text.as_bytes());
+            places.push(start..table.len());
         }
         let count = memory::check_names(&table)?;
-        assert_eq!(count, texts.len(), "the library counts other names");
-        let places = (0..count as u32).map(|number| memory::name_at(&table, number));
-        let places = places.collect::<Result<_, _>>()?;
+        assert_eq!(count, places.len(), "the library counts other names");
         Ok(Names { table, places })
     }
 

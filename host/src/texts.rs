@@ -30,3 +30,21 @@ pub fn sheet_line(sheet: &[u8]) -> Result<String, Refusal> {
         None => Ok(line),
     }
 }
+
+/// Makes the new sheet of an old one, whose field words have 8 bits for the name, in its bytes: nothing but field words
+/// changes, so the line is the old one. 11 if the old rules refuse the sheet before simplification; then all bytes stay.
+/// A sheet that is new already is refused so, or stays as it is.
+///
+/// ```
+/// use coombtray::{convert_sheet, sheet_line};
+///
+/// // The names p and q, the variable a, and a set with a under q.
+/// let mut sheet = *b"\x00\x02\x00\x02\x00\x01\x01p\x01q\x30\x00\x00\x01\x00\x00\x00\x00\x60\x00\x00\x01\x00\x80\x00\x00";
+/// assert_eq!(sheet_line(&sheet).unwrap_err().number(), 4);
+/// convert_sheet(&mut sheet)?;
+/// assert_eq!(sheet_line(&sheet)?, "1 2 { q: a }");
+/// # Ok::<(), coombtray::Refusal>(())
+/// ```
+pub fn convert_sheet(sheet: &mut [u8]) -> Result<(), Refusal> {
+    memory::convert_sheet(sheet)
+}

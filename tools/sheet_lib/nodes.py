@@ -1,14 +1,15 @@
-"""The words of a node (document 01, "Words of the arena"), and how something is refused."""
+"""The words of a node (document 01, "Words of the arena"; document 02, A2), and how something is refused."""
 
 PRIMITIVES = "null bool int float string path uri number".split()
 BOTTOM, TOP, PRIMITIVE, TY_VAR, LIST, LAMBDA, ATTR_SET, UNION, INTERSECTION, NAMED, NEG = range(11)
 KINDS = "never,any,primitive,variable,list,lambda,set,union,intersection,named,neg".split(",")
 SEPARATORS = {UNION: "|", INTERSECTION: "&"}
 UNKNOWN = 4294967295
-NAMES, NODES, WORDS, MEMBERS, BYTES = 256, 4096, 16384, 64, 65536
+NODES, WORDS, MEMBERS, BYTES = 4096, 16384, 64, 65536
 
 RULES = {
-    1: "a table has at most 256 names, each a length byte of 1 to 64 and as many bytes of 32 to 126, in strictly rising bytewise order",
+    1: "a table has at most 4,096 names in 65,536 bytes, each a length byte of 1 to 64 and as many bytes of 32 to 126, "
+       "in strictly rising bytewise order",
     3: "a node's kind is 0 to 10, its count, code and flags fit the kind, and the bits that have no meaning are 0",
     4: "a node's children come before it, and its names are in the table",
     5: "the names of a set's fields rise strictly",
@@ -17,6 +18,7 @@ RULES = {
     8: "a list has at most 64 different members",
     9: "a text has at most 65,536 bytes",
     10: "a sheet ends where its last node ends, has at most 65,536 bytes and no node twice",
+    11: "a sheet that is converted is an old one that the old rules take, simplification left aside",
 }
 AUTHOR, SIZE = "whoever made the node or chose the root", "the size of the work"
 CAUSES = {1: "whoever made the name table", 10: "whoever sent the sheet"}
@@ -65,8 +67,23 @@ def field_words(node):
     return node[1:len(node) - dynamic(node)] if kind(node) == ATTR_SET else ()
 
 
-def field_name(word):
-    return word >> 23 & 0xFF
+class FieldLayout:
+    """A field word: the mark `optional`, a name of so many bits, zeros, a child of 12 bits; and the most names of a table."""
+
+    def __init__(self, bits, names):
+        self.bits, self.name_at, self.names = bits, 31 - bits, names
+
+    def word(self, optional, name, child):
+        return optional << 31 | name << self.name_at | child
+
+    def name(self, word):
+        return word >> self.name_at & (1 << self.bits) - 1
+
+    def zero(self, word):
+        return word >> 12 & (1 << self.name_at - 12) - 1
+
+
+OLD, NEW = FieldLayout(8, 256), FieldLayout(16, 4096)
 
 
 def optional(word):
@@ -84,6 +101,12 @@ def children(node):
 def with_children(node, new):
     """The same node with other children."""
     return (node[0], *(word & ~0xFFF | n for word, n in zip(node[1:], new))) if new else node
+
+
+def relaid(node, before, after):
+    """The same node in another layout."""
+    fields = [after.word(optional(word), before.name(word), child(word)) for word in field_words(node)]
+    return (node[0], *fields, *node[1 + len(fields):])
 
 
 def run(job):

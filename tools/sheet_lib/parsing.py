@@ -1,7 +1,7 @@
 """A type from its text, and the sheet that holds it."""
 import re
 
-from .nodes import ATTR_SET, BOTTOM, BYTES, INTERSECTION, LAMBDA, LIST, MEMBERS, NAMED, NAMES, NEG, NODES, PRIMITIVE, PRIMITIVES
+from .nodes import ATTR_SET, BOTTOM, BYTES, INTERSECTION, LAMBDA, LIST, MEMBERS, NAMED, NEG, NEW, NODES, PRIMITIVE, PRIMITIVES
 from .nodes import SEPARATORS, TOP, TY_VAR, UNION, UNKNOWN, Refused, head, need, run
 from .texts import RESERVED, VARIABLE, is_type
 
@@ -70,7 +70,7 @@ class Tree:
             need(1 <= len(coded) <= 64, f"{shown(token)} can't be a name: it has {len(coded)} bytes", place, 1)
             for byte in coded:
                 need(32 <= byte <= 126, f"{shown(token)} can't be a name: it has a byte {byte}", place, 1)
-            need(len(self.names) < NAMES, "a 257th name", place, 1)
+            need(len(self.names) < NEW.names, "a 4,097th name", place, 1)
             self.names.add(name)
         return name
 
@@ -244,11 +244,11 @@ class Layout:
         if number in (PRIMITIVE, TY_VAR):
             return [data]
         if number == NAMED:
-            return [self.names[data] << 23 | children[0]]
+            return [NEW.word(False, self.names[data], children[0])]
         if number != ATTR_SET:
             return children
-        fields = [optional << 31 | self.names[name] << 23 for name, optional in data[0]]
-        return [field | n for field, n in zip(fields, children)] + children[len(fields):]
+        fields = [NEW.word(optional, self.names[name], n) for (name, optional), n in zip(data[0], children)]
+        return fields + children[len(fields):]
 
     def number(self, t, children):
         """The number of the node that a type becomes with these children."""

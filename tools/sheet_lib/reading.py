@@ -1,6 +1,6 @@
 """A sheet read from the front: the first fault met is the answer (document 01, "A sheet and its line")."""
-from .nodes import ATTR_SET, BYTES, KINDS, LAMBDA, MEMBERS, NAMED, NAMES, NEG, NODES, PRIMITIVE, TOP, TY_VAR, SEPARATORS
-from .nodes import Refused, child, children, dynamic, field_name, field_words, is_open, kind, optional
+from .nodes import ATTR_SET, BYTES, KINDS, LAMBDA, MEMBERS, NAMED, NEG, NEW, NODES, PRIMITIVE, TOP, TY_VAR, SEPARATORS
+from .nodes import Refused, child, children, dynamic, field_words, is_open, kind, optional, relaid
 
 
 def counts(head):
@@ -30,7 +30,7 @@ def head_fault(head):
     return None
 
 
-def body_faults(node):
+def body_faults(node, layout):
     """3: what is wrong with the body words by themselves, each with its place among the node's words."""
     fields = len(field_words(node))
     for at, word in enumerate(node[1:], 1):
@@ -38,38 +38,39 @@ def body_faults(node):
             yield at, f"primitive {word}, but primitives are 0 to 7"
         elif kind(node) == NAMED and optional(word):
             yield at, "optional is 1 in a named type"
-        elif kind(node) > TY_VAR and at <= fields and word >> 12 & 0x7FF:
-            yield at, f"the eleven bits between name and child are {word >> 12 & 0x7FF} and not 0"
+        elif kind(node) > TY_VAR and at <= fields and layout.zero(word):
+            yield at, f"the {layout.name_at - 12} bits between name and child are {layout.zero(word)} and not 0"
         elif kind(node) > TY_VAR and at > fields and word >> 12:
             yield at, f"the twenty bits before the child are {word >> 12} and not 0"
 
 
-def link_faults(node, below, names):
+def link_faults(node, below, names, layout):
     """4: children and names that aren't there."""
     fields = len(field_words(node))
     for at, _ in enumerate(children(node), 1):
         if child(node[at]) >= below:
             yield at, f"child {child(node[at])}, but this is node {below}, whose children are lower"
-        if at <= fields and field_name(node[at]) >= names:
-            yield at, f"name {field_name(node[at])}, but the table has {names}"
+        if at <= fields and layout.name(node[at]) >= names:
+            yield at, f"name {layout.name(node[at])}, but the table has {names}"
 
 
-def order_faults(node):
+def order_faults(node, layout):
     """5: field names that don't rise."""
-    found = [field_name(word) for word in field_words(node)]
+    found = [layout.name(word) for word in field_words(node)]
     for at in range(1, len(found)):
         if found[at - 1] >= found[at]:
             yield at + 1, f"name {found[at]} stands behind name {found[at - 1]}"
 
 
 class Sheet:
-    """The names, nodes and root of a sheet that the program takes. `bytes_at` and `starts` say where each head stands."""
+    """The names, nodes and root of a sheet that the program takes, or that it took when the layout was old: the nodes stand in
+    the new one. `bytes_at` and `starts` say where each head stands."""
 
-    def __init__(self, data):
-        self.data, self.at = data, 0
+    def __init__(self, data, layout=NEW):
+        self.data, self.layout, self.at = data, layout, 0
         self.names, self.nodes, self.bytes_at, self.starts = [], [], [], []
         count, nodes, self.root = (self.number(2, "the six opening bytes") for _ in range(3))
-        if count > NAMES:
+        if count > layout.names:
             self.refuse(1, 0, f"the sheet says that it has {count} names")
         for _ in range(count):
             self.read_name()
@@ -79,7 +80,7 @@ class Sheet:
             self.starts.append(words)
             node = self.read_node(n)
             self.judge(n, node, known.setdefault(node, n))
-            self.nodes.append(node)
+            self.nodes.append(relaid(node, layout, NEW))
             words += len(node)
         self.end()
 
@@ -127,7 +128,8 @@ class Sheet:
 
     def judge(self, n, node, first):
         """3, 4 and 5 over the whole node, then 10 if it is there already, then 7. All words of a sheet fit an arena, its nodes may not."""
-        met = ((3, body_faults(node)), (4, link_faults(node, n, len(self.names))), (5, order_faults(node)))
+        layout = self.layout
+        met = ((3, body_faults(node, layout)), (4, link_faults(node, n, len(self.names), layout)), (5, order_faults(node, layout)))
         for rule, faults in met:
             for at, what in faults:
                 self.refuse(rule, self.bytes_at[n] + 4 * at, what, n, self.starts[n] + at)

@@ -2,7 +2,7 @@
 import re
 
 from .nodes import ATTR_SET, BOTTOM, BYTES, INTERSECTION, LAMBDA, LIST, NAMED, NEG, PRIMITIVE, PRIMITIVES, SEPARATORS, TOP, TY_VAR
-from .nodes import UNION, UNKNOWN, child, dynamic, field_name, field_words, is_open, kind, need, optional
+from .nodes import NEW, UNION, UNKNOWN, child, dynamic, field_words, is_open, kind, need, optional
 
 IDENTIFIER = re.compile(r"[A-Za-z_][A-Za-z0-9_'-]*\Z")
 RESERVED = "assert else if in inherit let or rec then with".split()
@@ -40,11 +40,11 @@ class Texts:
         self.named = [quoted(name) if exact and is_type(name) else spelled(name) for name in names]
 
     def field(self, word):
-        return self.fields[field_name(word)] + "?" * optional(word)
+        return self.fields[NEW.name(word)] + "?" * optional(word)
 
     def name(self, word):
         """A named type stands as its name."""
-        return self.named[field_name(word)]
+        return self.named[NEW.name(word)]
 
     def pieces(self, n):
         """A node's text, as texts and the numbers of nodes whose texts stand between them."""

@@ -33,19 +33,23 @@ fn child(word: u32) -> TyRef {
     TyRef::from_raw((word & 0xfff).into())
 }
 
+/// The name in a field word.
+fn name(word: u32, names: &[SmolStr]) -> SmolStr {
+    names[(word >> 15 & 0xffff) as usize].clone()
+}
+
 fn set(head: u32, body: &[u32], names: &[SmolStr]) -> AttrSetTy<TyRef> {
     let dynamic = head >> 26 & 1;
     let (fields, last) = body.split_at(body.len() - dynamic as usize);
-    let name = |word: u32| names[(word >> 23 & 255) as usize].clone();
     let optional = fields.iter().filter(|word| **word >> 31 == 1);
     AttrSetTy {
         fields: fields
             .iter()
-            .map(|word| (name(*word), child(*word)))
+            .map(|word| (name(*word, names), child(*word)))
             .collect(),
         dyn_ty: last.first().map(|word| child(*word)),
         open: head >> 27 & 1 == 1,
-        optional_fields: optional.map(|word| name(*word)).collect(),
+        optional_fields: optional.map(|word| name(*word, names)).collect(),
     }
 }
 
@@ -64,7 +68,7 @@ fn node(head: u32, body: &[u32], names: &[SmolStr]) -> OutputTy {
         6 => OutputTy::AttrSet(set(head, body, names)),
         7 => OutputTy::Union(members()),
         8 => OutputTy::Intersection(members()),
-        9 => OutputTy::Named(names[(body[0] >> 23) as usize].clone(), child(body[0])),
+        9 => OutputTy::Named(name(body[0], names), child(body[0])),
         _ => OutputTy::Neg(child(body[0])),
     }
 }

@@ -81,15 +81,26 @@ fn fields(over: u32) -> (TypeArena, TyRef) {
     (arena, root)
 }
 
-/// 256 names, each of 64 bytes, the last first.
-fn names(over: u32) -> (TypeArena, TyRef) {
+/// These names in sets of up to 64, the last first. The root is a set alone: a text of them all would be too long.
+fn named(mut names: Vec<String>) -> (TypeArena, TyRef) {
     let mut arena = TypeArena::new();
-    let mut root = arena.intern(OutputTy::TyVar(7));
-    for at in (0..256 + over).rev() {
-        let name = SmolStr::new(format!("{at:060} end"));
-        root = arena.intern(OutputTy::Named(name, root));
-    }
-    (arena, root)
+    let leaf = arena.intern(OutputTy::TyVar(7));
+    names.reverse();
+    let mut store = |part: &[String]| arena.intern(set(part.iter().cloned(), leaf));
+    let sets: Vec<TyRef> = names.chunks(64).map(&mut store).collect();
+    (arena, sets[sets.len() - 1])
+}
+
+/// 4,096 names.
+fn names(over: u32) -> (TypeArena, TyRef) {
+    named((0..4_096 + over).map(|at| format!("n{at:04}")).collect())
+}
+
+/// Names that take 65,536 bytes, each with one for its length: 1,008 of 64 and one of 15.
+fn table(over: u32) -> (TypeArena, TyRef) {
+    let full = (0..1_008).map(|at| format!("{at:060} end"));
+    let last = "z".repeat(15 + over as usize);
+    named(full.chain([last]).collect())
 }
 
 /// 4,096 nodes.
@@ -134,13 +145,14 @@ fn text(over: u32) -> (TypeArena, TyRef) {
 
 type Edge = fn(u32) -> (TypeArena, TyRef);
 
-const EDGES: [(&str, Edge); 9] = [
+const EDGES: [(&str, Edge); 10] = [
     ("members", members),
     ("spliced", spliced),
     ("ladder", ladder),
     ("sorted", sorted),
     ("fields", fields),
     ("names", names),
+    ("table", table),
     ("nodes", nodes),
     ("words", words),
     ("text", text),

@@ -359,11 +359,14 @@ fn wide_set(random: &mut Random, made: &mut Made) {
 }
 
 fn many_names(random: &mut Random, made: &mut Made) {
-    let mut below = made.add(OutputTy::TyVar(2));
+    let leaf = made.add(OutputTy::TyVar(2));
+    let count = random.within(4_060..=4_160);
     // Downwards, so that each name comes before those that are there.
-    for at in (0..random.within(250..=300)).rev() {
-        let name = SmolStr::new(format!("n{at:03}"));
-        below = made.add(OutputTy::Named(name, below));
+    let names: Vec<_> = (0..count).rev().map(|at| format!("n{at:04}")).collect();
+    for part in names.chunks(60) {
+        let fields = part.iter().map(|name| (SmolStr::new(name), leaf));
+        let set = AttrSetTy::from_fields(fields.collect());
+        made.add(OutputTy::AttrSet(set));
     }
 }
 

@@ -3,8 +3,10 @@
 use std::collections::{BTreeSet, HashMap};
 
 use reference::case::Host;
+use reference::layout::Layout;
 use reference::memory::Memory;
 use reference::node::{Field, Node};
+use reference::table::{LENGTH, TABLE};
 use reference::{NODES, WORDS};
 
 use crate::random::Random;
@@ -54,8 +56,13 @@ impl Build {
     }
 
     pub fn table(&self) -> Vec<u8> {
-        let entry = |name: &Vec<u8>| [vec![name.len() as u8], name.clone()].concat();
-        self.names.iter().flat_map(entry).collect()
+        table(&self.names)
+    }
+
+    /// The sheet of this layout, which may be one that is refused.
+    pub fn sheet(&self, layout: Layout, root: u32) -> Vec<u8> {
+        let words = self.nodes.iter().map(|node| node.encode_in(layout));
+        sheet(&self.names, &words.collect::<Vec<_>>(), root)
     }
 
     /// The arena in so many lent words and starts; both must be enough.
@@ -94,7 +101,7 @@ impl Build {
         let count = random.within(0..=most.min(self.names.len()));
         let mut names = BTreeSet::new();
         while names.len() < count {
-            names.insert(random.below(self.names.len()) as u8);
+            names.insert(random.below(self.names.len()) as u16);
         }
         let mut field = |name| Field {
             optional: random.percent(40),
@@ -133,7 +140,7 @@ impl Build {
                 }
             }
             9 if !self.names.is_empty() => {
-                let name = random.below(self.names.len()) as u8;
+                let name = random.below(self.names.len()) as u16;
                 Node::Named(name, self.child(random))
             }
             10 => Node::Neg(self.child(random)),
@@ -142,20 +149,52 @@ impl Build {
     }
 }
 
-/// So many names of one style, in order.
+/// A length byte before each name.
+pub fn table(names: &[Vec<u8>]) -> Vec<u8> {
+    let entry = |name: &Vec<u8>| [vec![name.len() as u8], name.clone()].concat();
+    names.iter().flat_map(entry).collect()
+}
+
+/// The bytes of a sheet with these names and words of nodes, whatever they are.
+pub fn sheet(names: &[Vec<u8>], nodes: &[Vec<u32>], root: u32) -> Vec<u8> {
+    let counts = [names.len() as u16, nodes.len() as u16, root as u16];
+    let opening = counts.into_iter().flat_map(u16::to_be_bytes);
+    let words = nodes.concat().into_iter().flat_map(u32::to_be_bytes);
+    opening.chain(table(names)).chain(words).collect()
+}
+
+/// So many names of one style, in order. Where they are very many they are short enough for a table.
 pub fn names(random: &mut Random, count: usize) -> Vec<Vec<u8>> {
     let style = random.below(4);
-    names_by(random, count, |random| match style {
+    let most = LENGTH.min(TABLE / count.max(1) - 1);
+    let name = |random: &mut Random| match style {
         // Identifiers, mostly short.
         0 => (0..random.within(1..=5))
             .map(|_| random.pick(b"abcxyz_19"))
             .collect(),
         // Any printable bytes, any length.
-        1 => printable(random, 1..=64),
+        1 => printable(random, 1..=most),
         // A long common front.
-        2 => [vec![b'n'; random.within(0..=58)], printable(random, 1..=6)].concat(),
+        2 => {
+            let front = vec![b'n'; random.within(0..=most - 6)];
+            [front, printable(random, 1..=6)].concat()
+        }
         _ => spelled::name(random),
+    };
+    names_by(random, count, |random| {
+        let mut name = name(random);
+        name.truncate(most);
+        name
     })
+}
+
+/// Names whose table has so many bytes: all of 64, but for one that takes the rest.
+pub fn names_of_bytes(random: &mut Random, bytes: usize) -> Vec<Vec<u8>> {
+    let (full, rest) = (bytes / (1 + LENGTH), bytes % (1 + LENGTH));
+    let mut names = names_by(random, full, |random| printable(random, LENGTH..=LENGTH));
+    names.push(printable(random, rest - 1..=rest - 1));
+    names.sort();
+    names
 }
 
 /// So many different names, each made by this, in order.

@@ -3,17 +3,19 @@
 use lang_ty::TypeArena;
 use reference::calls;
 use reference::case::{Case, Host};
+use reference::layout::{Layout, NEW, OLD};
 use reference::limited::Lent;
 use reference::memory::Memory;
 use reference::node::{Field, Node};
 use reference::rust::Rust;
 use reference::second;
+use reference::table::TABLE;
 use reference::{Reply, NODES, TEXT, WORDS};
 
-use crate::build::{names, names_by, printable, Build};
+use crate::build::{self, names, names_by, names_of_bytes, printable, Build};
 use crate::damage;
 use crate::random::Random;
-use crate::shapes::{aliases, full_of_words, lambdas, shape, Shape};
+use crate::shapes::{aliases, full_of_words, lambdas, shape, shape_in, Shape};
 use crate::spelled;
 use crate::twin;
 
@@ -31,13 +33,14 @@ pub fn case(op: u8, random: &mut Random) -> Case {
         5 => display(Case::Display, calls::display, calls::display_nix, random),
         6 => Case::Table(table(random, 60).0),
         7 => name_order(random),
-        8 => sheet(random),
+        8 => Case::Sheet(sheet(NEW, OLD, random)),
         9..=17 | 20 => on_type(op, random),
         18 => compact(random),
         19 => equal(random),
         21 => write_sheet(random),
         22 => name_at(random),
         23 => display(Case::DisplayNix, calls::display_nix, calls::display, random),
+        24 => Case::Convert(sheet(OLD, NEW, random)),
         _ => panic!("no operation {op}"),
     }
 }
@@ -98,7 +101,7 @@ fn intern(random: &mut Random) -> Case {
         node = with_many_names(&mut arena, random).encode();
     }
     if random.percent(15) {
-        node = damage::competing(arena.nodes.len(), arena.names.len(), random);
+        node = damage::competing(NEW, arena.nodes.len(), arena.names.len(), random);
     } else if random.percent(30) {
         for _ in 0..random.pick(&[1, 1, 2, 3]) {
             damage::node(&mut node, arena.nodes.len(), arena.names.len(), random);
@@ -117,14 +120,14 @@ fn intern(random: &mut Random) -> Case {
     Case::Intern(host, node)
 }
 
-/// A node at the limits of names and fields, over a table of 256 names.
+/// A node at the limits of names and fields, over a table of 4,096 names.
 fn with_many_names(arena: &mut Build, random: &mut Random) -> Node {
-    arena.names = names(random, 256);
+    arena.names = names(random, NEW.names);
     let child = arena.child(random);
     if random.percent(30) {
-        return Node::Named(255, child);
+        return Node::Named(random.pick(&[255, 256, 4095]), child);
     }
-    let first = random.pick(&[0, 1, 192]);
+    let first = random.pick(&[0, 1, 193, 4032]);
     let field = |name| Field {
         optional: name % 3 == 0,
         name,
@@ -276,7 +279,7 @@ fn display(
     let Shape {
         mut arena,
         root: mut at,
-    } = printed(random);
+    } = printed(NEW, random);
     if random.percent(1) {
         at = long_text(&mut arena, random);
     }
@@ -291,9 +294,9 @@ fn display(
     call(host, root(&arena, at, random), room)
 }
 
-/// A type to be printed: often one with many names, now and then one whose text, bare or spelled, is about as long as a text
-/// may be.
-fn printed(random: &mut Random) -> Shape {
+/// A type to be printed, under names that this layout allows: often one with many names, now and then one whose text, bare or
+/// spelled, is about as long as a text may be.
+fn printed(layout: Layout, random: &mut Random) -> Shape {
     match random.below(100) {
         0..25 => spelled::shape(random),
         25..27 => {
@@ -301,7 +304,7 @@ fn printed(random: &mut Random) -> Shape {
             let wanted = random.pick(&[TEXT - 1, TEXT, TEXT, TEXT + 1]);
             spelled::long(two, wanted, random.pick(&spelled::LENGTHS))
         }
-        _ => shape(random),
+        _ => shape_in(layout, random),
     }
 }
 
@@ -325,7 +328,7 @@ fn write_sheet(random: &mut Random) -> Case {
         false => shape(random),
     };
     let length = 6 + arena.table().len() + 4 * arena.words;
-    let room = room(length as u32, random);
+    let room = room(length as u32, random).min(MOST_ROOM);
     let mut host = host(&arena, random);
     if random.percent(6) {
         damage::host(&mut host, random);
@@ -347,15 +350,22 @@ fn long_text(arena: &mut Build, random: &mut Random) -> u32 {
 
 /// A table, so many in a hundred with faults, and how many names it was made of.
 fn table(random: &mut Random, faulty: usize) -> (Vec<u8>, usize) {
-    let count = random.pick(&[0, 1, 2, 3, 8, 30, 255, 256, 257]);
-    let names = names(random, count);
-    let mut table = Build::named(names).table();
+    let limits = random.below(3);
+    let names = match random.below(100) {
+        0..5 => names(random, NEW.names - 1 + limits),
+        5..8 => names_of_bytes(random, TABLE - 1 + limits),
+        _ => {
+            let count = random.pick(&[0, 1, 2, 3, 8, 30, 255, 256, 257]);
+            names(random, count)
+        }
+    };
+    let mut table = build::table(&names);
     if random.percent(faulty) {
         for _ in 0..random.pick(&[1, 1, 2, 3]) {
             damage::table(&mut table, random);
         }
     }
-    (table, count)
+    (table, names.len())
 }
 
 /// Mostly a name that the table has, else one of the next, or any number.
@@ -393,35 +403,39 @@ fn name_order(random: &mut Random) -> Case {
     Case::Names(left, right)
 }
 
-fn sheet(random: &mut Random) -> Case {
-    let Shape { arena, root: at } = match random.percent(1) {
+/// A sheet of this layout or, now and then, of the other.
+fn sheet(layout: Layout, other: Layout, random: &mut Random) -> Vec<u8> {
+    let layout = if random.percent(4) { other } else { layout };
+    let Shape {
+        mut arena,
+        root: at,
+    } = match random.percent(1) {
         true => full_sheet(random),
-        false => printed(random),
+        false => printed(layout, random),
     };
+    if random.percent(1) {
+        let count = layout.names + random.below(2);
+        arena.names = names(random, count);
+    }
     let count = arena.nodes.len();
-    let mut nodes: Vec<Vec<u32>> = arena.nodes.iter().map(Node::encode).collect();
+    let nodes = arena.nodes.iter().map(|node| node.encode_in(layout));
+    let mut nodes: Vec<Vec<u32>> = nodes.collect();
     // One node more, now and then: a repeat, a faulty one, or the 4,097th.
     let more = match random.below(100) {
         0..3 => Some(random.pick(&nodes)),
-        3..9 => Some(damage::competing(count, arena.names.len(), random)),
+        3..9 => Some(damage::competing(layout, count, arena.names.len(), random)),
         _ if count == NODES => Some(Node::List(4095).encode()),
         _ => None,
     };
     nodes.extend(more);
-    let root = root(&arena, at, random) as u16;
-    let mut sheet = Vec::new();
-    for part in [arena.names.len() as u16, nodes.len() as u16, root] {
-        sheet.extend(part.to_be_bytes());
-    }
-    sheet.extend(arena.table());
-    sheet.extend(nodes.concat().into_iter().flat_map(u32::to_be_bytes));
+    let mut sheet = build::sheet(&arena.names, &nodes, root(&arena, at, random));
     if random.percent(35) {
         for _ in 0..random.pick(&[1, 1, 2]) {
             damage::sheet(&mut sheet, random);
         }
     }
     sheet.truncate(MOST_SHEET);
-    Case::Sheet(sheet)
+    sheet
 }
 
 /// With two bytes of table, 16,382 words make a sheet of exactly 65,536 bytes; a word more is too much.
@@ -429,4 +443,26 @@ fn full_sheet(random: &mut Random) -> Shape {
     let mut arena = Build::named(vec![vec![b'x']]);
     let root = full_of_words(&mut arena, random);
     Shape { arena, root }
+}
+
+#[cfg(test)]
+mod tests {
+    use reference::sheet::read;
+
+    use super::*;
+
+    /// Request A2's sentence: an old sheet with no name above 0 reads as it did, any other good one is 4 under the new layout.
+    #[test]
+    fn old_sheets_by_the_new_rules() {
+        let mut met = [0, 0];
+        for case in 0..2_000 {
+            let bytes = sheet(OLD, NEW, &mut Random::new(9, 24, case));
+            let Ok(old) = read(OLD, &bytes) else { continue };
+            let first_alone = |node: &Node| node.names().iter().all(|&name| name == 0);
+            let reads = old.nodes.iter().all(first_alone);
+            met[usize::from(reads)] += 1;
+            assert_eq!(read(NEW, &bytes), if reads { Ok(old) } else { Err(4) });
+        }
+        assert!(met.iter().all(|&count| count > 100), "{met:?}");
+    }
 }

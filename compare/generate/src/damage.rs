@@ -2,6 +2,7 @@
 //! faults compete.
 
 use reference::case::Host;
+use reference::layout::{Layout, CHILD, NEW};
 use reference::{NODES, WORDS};
 
 use crate::random::Random;
@@ -97,8 +98,8 @@ pub fn node(words: &mut Vec<u32>, nodes: usize, names: usize, random: &mut Rando
         5 => drop(words.pop()),
         6 => words[body] ^= 1 << random.below(32),
         7 => words[body] = words[body] & !0xfff | (nodes as u32 + random.below(2) as u32) & 0xfff,
-        8 => words[body] = words[body] & !(0xff << 23) | (names as u32 & 0xff) << 23,
-        9 => words[body] |= 0xff << 23,
+        8 => words[body] = words[body] & !NEW.name() | named(NEW, names),
+        9 => words[body] |= NEW.name(),
         10 => words.swap(body, at),
         11 => words[body] = words[words.len() - 1],
         _ => {
@@ -110,21 +111,27 @@ pub fn node(words: &mut Vec<u32>, nodes: usize, names: usize, random: &mut Rando
     }
 }
 
+/// The bits of a name of this number, or of another where it has too many.
+fn named(layout: Layout, number: usize) -> u32 {
+    (number as u32) << layout.lowest & layout.name()
+}
+
 /// A set with a fault 3, 4 or 5, or with several of them.
-pub fn competing(nodes: usize, names: usize, random: &mut Random) -> Vec<u32> {
+pub fn competing(layout: Layout, nodes: usize, names: usize, random: &mut Random) -> Vec<u32> {
     let count = random.within(2..=4).min(names.max(2));
-    let mut field = |at: usize| (at as u32) << 23 | random.below(nodes.max(1)) as u32;
+    let mut field = |at: usize| named(layout, at) | random.below(nodes.max(1)) as u32;
     let mut body: Vec<u32> = (0..count).map(&mut field).collect();
     let faults = random.within(1..=7);
     if faults & 1 != 0 {
         // A zero field that isn't zero.
-        body[random.below(count)] |= 1 << random.within(12..=22);
+        let bits = CHILD as usize..=layout.lowest as usize - 1;
+        body[random.below(count)] |= 1 << random.within(bits);
     }
     if faults & 2 != 0 {
         let at = random.below(count);
         body[at] = match random.percent(50) {
             true => body[at] & !0xfff | nodes as u32 & 0xfff,
-            false => (names as u32 & 0xff) << 23,
+            false => named(layout, names),
         };
     }
     if faults & 4 != 0 {

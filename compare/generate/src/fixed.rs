@@ -4,9 +4,9 @@ use std::collections::BTreeSet;
 
 use reference::calls;
 use reference::case::{Case, Host};
+use reference::layout::{Layout, CHILD, NEW, OLD};
 use reference::memory::Memory;
 use reference::node::{Field, Node};
-use reference::sheet::{self, Sheet};
 use reference::spelling::RESERVED;
 use reference::{MEMBERS, NODES, TEXT, WORDS};
 
@@ -28,11 +28,9 @@ pub fn cases(op: u8) -> Vec<Case> {
         }),
         4 => on_types(|host, root| vec![Case::Simplify(host, root)]),
         5 => texts(Case::Display, calls::display),
-        6 => [0, 1, 255, 256, 257]
-            .map(|n| Case::Table(numbered(n).table()))
-            .into(),
+        6 => tables().map(|names| Case::Table(names.table())).collect(),
         7 => vec![Case::Names(vec![b'x'; 64], vec![b'x'; 63])],
-        8 => sheets(),
+        8 => sheets(NEW, Case::Sheet),
         9..=17 | 20 => on_types(|host, root| vec![Case::OnType(op, host, root)]),
         18 => on_types(|host, root| {
             let target = host.memory.clone();
@@ -51,6 +49,7 @@ pub fn cases(op: u8) -> Vec<Case> {
         }),
         22 => places(),
         23 => texts(Case::DisplayNix, calls::display_nix),
+        24 => sheets(OLD, Case::Convert),
         _ => panic!("no operation {op}"),
     }
 }
@@ -111,7 +110,7 @@ fn named() -> Vec<(Build, u32)> {
 
 /// The set that has each name as a field, of which the type is the alias of that name.
 fn every_name(names: Vec<Vec<u8>>) -> (Build, u32) {
-    let count = names.len() as u8;
+    let count = names.len() as u16;
     let mut arena = Build::named(names);
     let int = arena.put(Node::Primitive(2));
     let field = |name| Field {
@@ -123,26 +122,49 @@ fn every_name(names: Vec<Vec<u8>>) -> (Build, u32) {
     over(arena, vec![Node::AttrSet(fields, Some(int), true)])
 }
 
-/// A table of so many names of two bytes.
+/// A table of so many names of three bytes.
 fn numbered(count: usize) -> Build {
-    let name = |n: usize| vec![b'A' + (n / 26) as u8, b'a' + (n % 26) as u8];
+    let name = |n: usize| {
+        let [first, second, third] = [n / 676, n / 26 % 26, n % 26].map(|digit| digit as u8);
+        vec![b'A' + first, b'a' + second, b'a' + third]
+    };
     Build::named((0..count).map(name).collect())
+}
+
+/// A table of so many names, all of one length but for the last.
+fn filling(count: usize, length: usize, last: usize) -> Build {
+    let names = (1..count).map(|n| format!("{n:0length$}"));
+    let names = names.chain(["z".repeat(last)]);
+    Build::named(names.map(String::into_bytes).collect())
+}
+
+/// A table of so many bytes, about 65,536, in 1,009 names.
+fn sized(bytes: usize) -> Build {
+    filling(1_009, 64, bytes - 1_008 * 65 - 1)
+}
+
+/// A table of 4,096 names, which takes 65,536 bytes if the last has 15.
+fn fullest(last: usize) -> Build {
+    filling(4_096, 15, last)
+}
+
+/// Tables at the limits of names and bytes, and past them.
+fn tables() -> impl Iterator<Item = Build> {
+    let counts = [0, 1, 2, 255, 256, 257, 4_095, 4_096, 4_097].map(numbered);
+    let bytes = [65_535, 65_536, 65_537].map(sized);
+    let all = counts.into_iter().chain(bytes);
+    all.chain([15, 16].map(fullest))
 }
 
 /// The first and the last name of a table, and the numbers past it, for tables of every limit.
 fn places() -> Vec<Case> {
     let longest = Build::named(vec![b"x".to_vec(), vec![b'x'; 64]]);
-    let tables = [0, 1, 2, 255, 256, 257].map(numbered);
     let places = |table: Build| {
         let count = table.names.len() as u32;
         let numbers = [0, count.saturating_sub(1), count, u32::MAX];
         numbers.map(|number| Case::NameAt(table.table(), number))
     };
-    tables
-        .into_iter()
-        .chain([longest])
-        .flat_map(places)
-        .collect()
+    tables().chain([longest]).flat_map(places).collect()
 }
 
 /// The types, each with its arena: a, b, `never`, `any`, `int`, `null` and `bool` are nodes 0 to 6.
@@ -172,7 +194,10 @@ fn types() -> Vec<(Build, u32)> {
         .into_iter()
         .map(|nodes| over(leaves(2), nodes))
         .collect();
-    types.push(over(leaves(256), vec![Node::Named(255, 0)]));
+    for (names, last) in [(256, 255), (257, 256), (4_096, 4_095), (4_097, 4_095)] {
+        types.push(over(leaves(names), vec![Node::Named(last, 0)]));
+    }
+    types.extend([fullest(15), fullest(16)].map(last_names));
     types.extend((1..=8).chain([40]).map(ladder));
     types.extend((63..=65).map(spliced));
     types.extend([chain(Node::List), chain(|c| Node::Union(vec![c, 4]))]);
@@ -184,7 +209,10 @@ fn types() -> Vec<(Build, u32)> {
 }
 
 fn leaves(names: usize) -> Build {
-    let mut arena = numbered(names);
+    with_leaves(numbered(names))
+}
+
+fn with_leaves(mut arena: Build) -> Build {
     arena.var(0);
     arena.var(1);
     for leaf in [Node::Bottom, Node::Top] {
@@ -200,6 +228,19 @@ fn over(mut arena: Build, nodes: Vec<Node>) -> (Build, u32) {
     let roots: Vec<u32> = nodes.into_iter().map(|node| arena.put(node)).collect();
     let root = roots[roots.len() - 1];
     (arena, root)
+}
+
+/// The set that has the last 64 names of a table as its fields, and a dynamic part.
+fn last_names(names: Build) -> (Build, u32) {
+    let count = names.names.len();
+    let field = |name| Field {
+        optional: name % 2 == 1,
+        name: name as u16,
+        child: 4,
+    };
+    let fields = (count - MEMBERS..count).map(field).collect();
+    let set = Node::AttrSet(fields, Some(0), false);
+    over(with_leaves(names), vec![set])
 }
 
 /// The closed set of two fields.
@@ -265,26 +306,30 @@ fn long_text(wraps: &[fn(u32) -> Node]) -> (Build, u32) {
 }
 
 /// `intern` at the limits: 64 and 65 members, the 4,096th node and the next, the last word and one
-/// more, name 255.
+/// more, the last name and the next, and each bit of a field word that must be zero.
 fn nodes() -> Vec<Case> {
     let list = |head: u32, members: usize| [vec![head + members as u32], vec![0; members]].concat();
-    let small = leaves(256).host(200, 20);
+    let small = leaves(4_096).host(200, 20);
     let mut cases: Vec<Case> = vec![
         list(0x7000_0000, MEMBERS),
         list(0x7000_0000, MEMBERS + 1),
         list(0x8000_0000, MEMBERS),
         list(0x8000_0000, MEMBERS + 1),
         Node::Named(255, 0).encode(),
+        Node::Named(256, 0).encode(),
+        Node::Named(4_095, 0).encode(),
+        Node::Named(4_096, 0).encode(),
         vec![],
     ]
     .into_iter()
+    .chain((12..15).map(|bit| vec![0x9000_0001, 1 << bit]))
     .map(|node| Case::Intern(small.clone(), node))
     .collect();
     let without = Host {
-        table: numbered(255).table(),
+        table: numbered(4_095).table(),
         ..small
     };
-    cases.push(Case::Intern(without, Node::Named(255, 0).encode()));
+    cases.push(Case::Intern(without, Node::Named(4_095, 0).encode()));
 
     let (full, last) = chain(Node::List);
     let mut room = leaves(2);
@@ -316,11 +361,12 @@ fn filled(words: usize) -> Build {
     arena
 }
 
-/// The example, sheets of 4,096 and 4,097 nodes, and sheets with names in quotes.
-fn sheets() -> Vec<Case> {
+/// The example, sheets of 4,096 and 4,097 nodes, the types, those with names in quotes, the limits of names and bytes, and field
+/// words with a bit that must be zero.
+fn sheets(layout: Layout, call: fn(Vec<u8>) -> Case) -> Vec<Case> {
     let sheet = |opening: &[u8], words: Vec<u32>| {
         let words = words.into_iter().flat_map(u32::to_be_bytes);
-        Case::Sheet(opening.iter().copied().chain(words).collect())
+        opening.iter().copied().chain(words).collect()
     };
     let example = vec![0x3000_0001, 0, 0x2000_0001, 2, 0x7000_0002, 0, 1];
     let chain = |count: u32| {
@@ -332,15 +378,49 @@ fn sheets() -> Vec<Case> {
         sheet(&[0, 0, 0x10, 0x00, 0, 9], chain(4096)),
         sheet(&[0, 0, 0x10, 0x01, 0, 9], chain(4097)),
     ];
-    sheets.extend(named().into_iter().map(written));
-    sheets
+    let all = [types(), named(), limits(layout)].concat();
+    let allowed = |arena: &Build| arena.names.len() <= layout.names + 1;
+    let all = all.into_iter().filter(|(arena, _)| allowed(arena));
+    sheets.extend(all.map(|(arena, root)| arena.sheet(layout, root)));
+    // The six opening bytes say that there is a name too many, or one of them is missing.
+    let opening = numbered(layout.names + 1).sheet(layout, 0);
+    sheets.extend([5, 6].map(|end| opening[..end].to_vec()));
+    // Each bit of a field word that must be zero, in an alias and in a set.
+    for bit in CHILD..layout.lowest {
+        for head in [0x9000_0001, 0x6000_0001] {
+            let words = vec![0x3000_0001, 0, head, 1 << bit];
+            sheets.push(sheet(b"\0\x01\0\x02\0\x01\x01x", words));
+        }
+    }
+    sheets.into_iter().map(call).collect()
 }
 
-fn written((arena, root): (Build, u32)) -> Case {
-    let sheet = Sheet {
-        names: arena.texts(),
-        nodes: arena.nodes,
-        root,
-    };
-    Case::Sheet(sheet::write(&sheet, TEXT).expect("it fits"))
+/// All 4,096 nodes, and a root for which `simplify` needs one more.
+fn without_room() -> (Build, u32) {
+    let nodes = vec![Node::Union(vec![0, 4]), Node::List(7)];
+    let (mut arena, root) = over(leaves(2), nodes);
+    while arena.nodes.len() < NODES {
+        arena.var(arena.nodes.len() as u32);
+    }
+    (arena, root)
+}
+
+/// Types at the limits of a sheet's names, nodes and bytes, and past them.
+fn limits(layout: Layout) -> Vec<(Build, u32)> {
+    let mut types = vec![
+        last_names(numbered(layout.names)),
+        over(leaves(layout.names + 1), vec![Node::Named(1, 0)]),
+        without_room(),
+    ];
+    // A table of two bytes and 16,382 words make 65,536 bytes.
+    for words in [WORDS - 2, WORDS - 1] {
+        let mut arena = filled(words);
+        arena.names = vec![b"x".to_vec()];
+        types.push((arena, 0));
+    }
+    // So do one of 65,526 bytes and a single word.
+    for bytes in [65_526, 65_527, 65_536, 65_537] {
+        types.push(over(sized(bytes), vec![Node::Bottom]));
+    }
+    types
 }

@@ -1,5 +1,6 @@
 //! Arenas of many shapes. Most are small; some fill what may be lent.
 
+use reference::layout::{Layout, NEW};
 use reference::node::{Field, Node};
 use reference::{MEMBERS, NODES, WORDS};
 
@@ -13,8 +14,13 @@ pub struct Shape {
 }
 
 pub fn shape(random: &mut Random) -> Shape {
+    shape_in(NEW, random)
+}
+
+/// A shape with no more names than this layout allows.
+pub fn shape_in(layout: Layout, random: &mut Random) -> Shape {
     let count = match random.below(100) {
-        0 => 256,
+        0 => layout.names - random.below(2),
         1..20 => 0,
         _ => random.within(1..=5),
     };
@@ -26,7 +32,7 @@ pub fn shape(random: &mut Random) -> Shape {
         650..700 => wide(&mut arena, random),
         700..780 => splice(&mut arena, random),
         780..840 => polar(&mut arena, random),
-        840..890 => sets(&mut arena, random),
+        840..890 => sets(layout, &mut arena, random),
         890..950 => siblings(&mut arena, random),
         950..990 => {
             let length = random.within(2..=200);
@@ -215,15 +221,15 @@ fn polar_at(arena: &mut Build, random: &mut Random, positive: bool, depth: usize
 }
 
 /// Sets of all sizes over larger tables.
-fn sets(arena: &mut Build, random: &mut Random) -> u32 {
-    let count = random.pick(&[1, 3, 64, 65, 255, 256]);
+fn sets(layout: Layout, arena: &mut Build, random: &mut Random) -> u32 {
+    let count = random.pick(&[1, 3, 64, 65, 255, 256, layout.names]);
     arena.names = names(random, count);
     leaves(arena, random);
     for _ in 0..random.within(1..=6) {
         let most = random.pick(&[1, 3, MEMBERS]);
         let mut fields = arena.fields(random, most);
         if random.percent(20) {
-            let name = (arena.names.len() - 1) as u8;
+            let name = (arena.names.len() - 1) as u16;
             let child = arena.child(random);
             fields.retain(|f| f.name != name);
             fields.truncate(MEMBERS - 1);
@@ -301,7 +307,7 @@ pub fn aliases(random: &mut Random) -> Shape {
     let mut arena = Build::named(names(random, 3));
     let mut root = algebra(&mut arena, random);
     for _ in 0..random.within(0..=5) {
-        root = arena.put(Node::Named(random.below(3) as u8, root));
+        root = arena.put(Node::Named(random.below(3) as u16, root));
     }
     Shape { arena, root }
 }

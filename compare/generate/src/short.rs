@@ -1,6 +1,7 @@
 //! All short cases of each operation.
 
 use reference::case::{Case, Host};
+use reference::layout::{Layout, NEW, OLD};
 use reference::node::{Field, Node};
 
 use crate::build::Build;
@@ -16,7 +17,7 @@ pub fn cases(op: u8) -> Vec<Case> {
             .map(Case::Table)
             .collect(),
         7 => names(),
-        8 => sheets(),
+        8 => sheets(NEW, Case::Sheet),
         9..=17 | 20 => types(|host, root| Case::OnType(op, host, root)),
         18 => types(|host, root| Case::Compact(host.clone(), root, host.memory)),
         19 => equals(),
@@ -25,6 +26,7 @@ pub fn cases(op: u8) -> Vec<Case> {
             .flat_map(|table| [0, 1, 2].map(|number| Case::NameAt(table.clone(), number)))
             .collect(),
         23 => texts(Case::DisplayNix),
+        24 => sheets(OLD, Case::Convert),
         _ => panic!("no operation {op}"),
     }
 }
@@ -58,7 +60,7 @@ fn nodes() -> Vec<Case> {
     arena.var(0);
     arena.put(Node::Top);
     let host = arena.host(8, 3);
-    let bodies: Vec<_> = lists(&[0, 2, 1 << 12, 1 << 23, 1 << 31], 2).collect();
+    let bodies: Vec<_> = lists(&[0, 2, 1 << 12, 1 << 14, 1 << 15, 1 << 31], 2).collect();
     let mut cases = vec![Case::Intern(host.clone(), vec![])];
     for kind_and_flags in 0..1 << 6 {
         for zero_and_count in [0, 1, 2, 3, 1 << 16 | 1, 1 << 25 | 1] {
@@ -95,7 +97,7 @@ fn composites(nodes: u32, with_sets: bool) -> Vec<Node> {
 }
 
 fn sets() -> Vec<Node> {
-    let field = |name: u8, optional| Field {
+    let field = |name: u16, optional| Field {
         optional,
         name,
         child: 0,
@@ -193,17 +195,18 @@ fn names() -> Vec<Case> {
         .collect()
 }
 
-/// Two good sheets, every front of them, and every copy with one bit turned.
-fn sheets() -> Vec<Case> {
+/// Two good sheets of a layout, every front of them, and every copy with one bit turned.
+fn sheets(layout: Layout, call: fn(Vec<u8>) -> Case) -> Vec<Case> {
+    let second = 1 << layout.lowest;
     let plain = [0x3000_0001, 0, 0x2000_0001, 2, 0x7000_0002, 0, 1];
     let named = [
         0x3000_0001,
         0,
         0x9000_0001,
-        1 << 23,
+        second,
         0x6c00_0003,
         0x8000_0001,
-        1 << 23,
+        second,
         1,
         0xa000_0001,
         2,
@@ -218,11 +221,11 @@ fn sheets() -> Vec<Case> {
     ];
     let mut cases = Vec::new();
     for sheet in good {
-        cases.extend((0..=sheet.len()).map(|end| Case::Sheet(sheet[..end].to_vec())));
+        cases.extend((0..=sheet.len()).map(|end| call(sheet[..end].to_vec())));
         for bit in 0..8 * sheet.len() {
             let mut turned = sheet.clone();
             turned[bit / 8] ^= 1 << (bit % 8);
-            cases.push(Case::Sheet(turned));
+            cases.push(call(turned));
         }
     }
     cases

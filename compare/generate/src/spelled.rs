@@ -90,7 +90,7 @@ pub fn shape(random: &mut Random) -> Shape {
     }
     let fields = (0..count).map(|name| Field {
         optional: random.percent(30),
-        name: name as u8,
+        name: name as u16,
         child: arena.child(random),
     });
     let fields = fields.collect();

@@ -2,6 +2,7 @@
 
 use std::collections::BTreeSet;
 
+use reference::layout::NEW;
 use reference::node::Node;
 
 use crate::build::{names, Build};
@@ -10,12 +11,12 @@ use crate::random::Random;
 /// The copy, and the root there. In half of the copies one node is another.
 pub fn copy(arena: &Build, at: u32, random: &mut Random) -> (Build, u32) {
     let mut all: BTreeSet<Vec<u8>> = arena.names.iter().cloned().collect();
-    if all.len() < 250 {
+    if all.len() + 2 <= NEW.names {
         all.extend(names(random, 2));
     }
     let mut copy = Build::named(all.into_iter().collect());
-    let place = |name: &Vec<u8>| copy.names.binary_search(name).unwrap() as u8;
-    let places: Vec<u8> = arena.names.iter().map(place).collect();
+    let place = |name: &Vec<u8>| copy.names.binary_search(name).unwrap() as u16;
+    let places: Vec<u16> = arena.names.iter().map(place).collect();
     for _ in 0..random.below(4) {
         let kind = random.below(11);
         let node = copy.node(random, kind);
@@ -34,7 +35,7 @@ pub fn copy(arena: &Build, at: u32, random: &mut Random) -> (Build, u32) {
     (copy, numbers[at as usize])
 }
 
-fn renamed(mut node: Node, places: &[u8]) -> Node {
+fn renamed(mut node: Node, places: &[u16]) -> Node {
     match &mut node {
         Node::AttrSet(fields, ..) => {
             for field in fields {

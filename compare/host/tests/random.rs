@@ -4,12 +4,16 @@ use std::collections::BTreeMap;
 use std::fmt::Debug;
 use std::sync::Arc;
 
-use coombtray::{sheet_line, tyvar_name, TyRef, TypeArena};
+use coombtray::{
+    convert_sheet, sheet_line, tyvar_name, AttrSetTy, Field, OutputTy, TyRef, TypeArena,
+};
 use host::both::{nodes, to_ours, to_theirs, Both, PRIMITIVES};
 use host::random::{type_of, Random, NAMES};
 use lang_ty::simplify::simplify;
 use lang_ty::OwnedTy;
+use reference::layout::{NEW, OLD};
 use reference::rust::Rust;
+use reference::sheet;
 use reference::TEXT;
 
 const TYPES: u64 = 3_000;
@@ -167,6 +171,17 @@ fn written(seed: u64, met: &mut Met) {
     met.note("quotes", line.as_ref().is_ok_and(|line| line.contains('"')));
     assert_eq!(read, line);
     met.note("over 256 bytes", sheet.len() > 256);
+    met.note("converted", converted(&sheet));
+}
+
+/// The old sheet of the same type, which the reference writes, becomes this one. Gives whether it was another.
+fn converted(new: &[u8]) -> bool {
+    let read = sheet::read(NEW, new).unwrap();
+    let mut bytes = sheet::write(OLD, &read, TEXT).unwrap();
+    let differs = bytes != new;
+    convert_sheet(&mut bytes).unwrap();
+    assert_eq!(bytes, new);
+    differs
 }
 
 #[test]
@@ -177,8 +192,34 @@ fn sheets() {
             written(seed, &mut met);
         }
     });
-    for what in ["over 256 bytes", "quotes"] {
+    for what in ["over 256 bytes", "quotes", "converted"] {
         met.often(what, &["true", "false"]);
+    }
+}
+
+/// A set with up to 64 of these names.
+fn set_of(random: &mut Random, names: &[String], ty: TyRef) -> OutputTy {
+    let mut attrs = AttrSetTy::new();
+    for _ in 0..64 {
+        let optional = random.half();
+        let name = names[random.below(names.len())].clone();
+        attrs.fields.insert(name, Field { ty, optional });
+    }
+    OutputTy::AttrSet(attrs)
+}
+
+/// Sets over as many names as a table holds, in as many bytes, and the last of them.
+#[test]
+fn all_names() {
+    let names: Vec<String> = (0..4_096).map(|at| format!("{at:015}")).collect();
+    let texts: Vec<&str> = names.iter().map(String::as_str).collect();
+    let (mut both, mut random) = (Both::new(&texts), Random::new(1));
+    let leaf = both.intern(OutputTy::TyVar(0));
+    let last = both.intern(OutputTy::Named(names[4_095].clone(), leaf));
+    for _ in 0..30 {
+        let ty = both.intern(set_of(&mut random, &names, last));
+        both.alike(ty);
+        copied(&both, ty);
     }
 }
 

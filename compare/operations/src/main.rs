@@ -20,6 +20,7 @@ use std::time::{Duration, Instant};
 use std::{env, fs};
 
 use reference::case::{Case, Reader};
+use reference::layout::NEW;
 use reference::node::Node;
 use reference::sheet::{self, Sheet};
 use reference::{NODES, WORDS};
@@ -59,7 +60,7 @@ fn hold(path: &str) -> Held {
         let Case::Sheet(bytes) = case else {
             panic!("not a sheet");
         };
-        let Sheet { names, nodes, root } = sheet::read(&bytes).expect("a faulty sheet");
+        let Sheet { names, nodes, root } = sheet::read(NEW, &bytes).expect("a faulty sheet");
         let used: usize = nodes.iter().map(|n| n.size()).sum();
         let two = (WORDS.min(2 * used), NODES.min(2 * nodes.len()));
         full.push(Ours::holding(&nodes, &names, root, (WORDS, NODES)));

@@ -8,6 +8,7 @@ use lang_ty::TypeArena;
 
 use crate::calls::{self, Changed};
 use crate::case::{hex, without_zeros, Case, Host};
+use crate::layout::{NEW, OLD};
 use crate::memory::Memory;
 use crate::{sheet, table, Reply};
 
@@ -37,7 +38,8 @@ pub fn answer(case: &Case) -> Answer {
         Case::Table(bytes) => said(table::check(bytes).map(|names| format!("ok {}", names.len()))),
         Case::NameAt(table, number) => said(table::place(table, *number).map(stretch)),
         Case::Names(left, right) => order(left.cmp(right)),
-        Case::Sheet(bytes) => said(sheet::line(bytes, left)),
+        Case::Sheet(bytes) => said(sheet::line(NEW, bytes, left)),
+        Case::Convert(bytes) => converted(bytes, left),
         Case::OnType(op, host, root) => on_type(*op, host, *root),
         Case::Compact(host, root, target) => compacted(calls::compact(host, *root, target)),
         Case::Equal(left, right) => {
@@ -69,6 +71,14 @@ fn on_type(op: u8, host: &Host, root: u32) -> String {
         17 => changed(host, calls::set_ops(host, root)),
         20 => said(calls::reachable(host, root).map(|count| format!("ok {count}"))),
         _ => unreachable!("no such operation"),
+    }
+}
+
+/// The bytes as the converter leaves them, and the line that the old sheet had.
+fn converted(old: &[u8], left_out: &mut bool) -> String {
+    match sheet::convert(old) {
+        Ok(new) => format!("ok {} {}", hex(&new), said(sheet::line(OLD, old, left_out))),
+        Err(number) => format!("{} {}", refused(number), hex(old)),
     }
 }
 

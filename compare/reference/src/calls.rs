@@ -5,6 +5,7 @@ use std::cmp::Ordering;
 use lang_ty::{TyRef, TypeArena};
 
 use crate::case::Host;
+use crate::layout::NEW;
 use crate::limited::Lent;
 use crate::memory::Memory;
 use crate::node::{decode, Node};
@@ -48,7 +49,7 @@ fn lent(memory: &Memory) -> Lent {
 
 pub fn intern(host: &Host, words: &[u32]) -> Reply<Changed> {
     let (names, nodes) = read(host)?;
-    let node = decode(words, nodes.len(), names.len())?;
+    let node = decode(NEW, words, nodes.len(), names.len())?;
     let number = Rust::holding(&nodes, &names).intern(&node);
     let mut memory = host.memory.clone();
     if number as usize == nodes.len() {
@@ -97,9 +98,9 @@ pub fn write_sheet(host: &Host, root: u32, room: u32) -> Reply<Vec<u8>> {
     let (names, nodes) = read(host)?;
     below(root, &nodes)?;
     let sheet = Sheet { names, nodes, root };
-    let bytes = sheet::write(&sheet, room as usize)?;
+    let bytes = sheet::write(NEW, &sheet, room as usize)?;
     assert_eq!(
-        sheet::read(&bytes),
+        sheet::read(NEW, &bytes),
         Ok(sheet),
         "the sheet is read as another"
     );

@@ -21,6 +21,8 @@ pub enum Case {
     NameAt(Vec<u8>, u32),
     Names(Vec<u8>, Vec<u8>),
     Sheet(Vec<u8>),
+    /// An old sheet.
+    Convert(Vec<u8>),
     /// A call that takes a type and nothing else; its number says which.
     OnType(u8, Host, u32),
     /// The arena to be copied from, the root, and the target.
@@ -31,8 +33,8 @@ pub enum Case {
 }
 
 /// The numbers of the operations, all that there are.
-pub const OPS: [u8; 23] = [
-    1, 2, 3, 4, 5, 6, 7, 8, 9, 10, 11, 12, 13, 14, 15, 16, 17, 18, 19, 20, 21, 22, 23,
+pub const OPS: [u8; 24] = [
+    1, 2, 3, 4, 5, 6, 7, 8, 9, 10, 11, 12, 13, 14, 15, 16, 17, 18, 19, 20, 21, 22, 23, 24,
 ];
 
 /// Cases are taken from the front.
@@ -74,7 +76,7 @@ impl<'a> Reader<'a> {
     }
 
     fn host(&mut self) -> Host {
-        let table = self.text(2);
+        let table = self.text(4);
         let memory = self.memory();
         Host { table, memory }
     }
@@ -104,15 +106,16 @@ impl Iterator for Reader<'_> {
             3 => Case::Order(self.host(), self.word(), self.word()),
             4 => Case::Simplify(self.host(), self.word()),
             5 => Case::Display(self.host(), self.word(), self.word()),
-            6 => Case::Table(self.text(2)),
+            6 => Case::Table(self.text(4)),
             7 => Case::Names(self.text(1), self.text(1)),
             8 => Case::Sheet(self.text(4)),
             op @ (9..=17 | 20) => Case::OnType(op as u8, self.host(), self.word()),
             18 => Case::Compact(self.host(), self.word(), self.memory()),
             19 => Case::Equal((self.host(), self.word()), (self.host(), self.word())),
             21 => Case::WriteSheet(self.host(), self.word(), self.word()),
-            22 => Case::NameAt(self.text(2), self.word()),
+            22 => Case::NameAt(self.text(4), self.word()),
             23 => Case::DisplayNix(self.host(), self.word(), self.word()),
+            24 => Case::Convert(self.text(4)),
             op => panic!("no operation {op}"),
         })
     }
@@ -148,7 +151,7 @@ impl Writer {
     }
 
     fn host(&mut self, host: &Host) {
-        self.text(&host.table, 2);
+        self.text(&host.table, 4);
         self.memory(&host.memory);
     }
 
@@ -187,6 +190,7 @@ impl Case {
             Case::WriteSheet(..) => 21,
             Case::NameAt(..) => 22,
             Case::DisplayNix(..) => 23,
+            Case::Convert(_) => 24,
         }
     }
 
@@ -221,16 +225,15 @@ impl Case {
                     to.word(*root);
                 }
             }
-            Case::Table(table) => to.text(table, 2),
             Case::NameAt(table, number) => {
-                to.text(table, 2);
+                to.text(table, 4);
                 to.word(*number);
             }
             Case::Names(left, right) => {
                 to.text(left, 1);
                 to.text(right, 1);
             }
-            Case::Sheet(sheet) => to.text(sheet, 4),
+            Case::Table(bytes) | Case::Sheet(bytes) | Case::Convert(bytes) => to.text(bytes, 4),
         }
         to.0
     }

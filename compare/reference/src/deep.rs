@@ -18,7 +18,7 @@ fn chain(first: &[Node], step: impl Fn(u32) -> Node) -> Vec<Node> {
 }
 
 /// The closed set with these fields, each a name's number and a child.
-fn set(fields: &[(u8, u32)]) -> Node {
+fn set(fields: &[(u16, u32)]) -> Node {
     let field = |&(name, child)| Field {
         optional: false,
         name,

@@ -2,6 +2,7 @@
 
 use std::collections::HashSet;
 
+use crate::layout::NEW;
 use crate::node::{decode, Head, Node};
 use crate::{Reply, NODES, WORDS};
 
@@ -35,7 +36,7 @@ impl Memory {
             if start as usize != end || !seen.insert(node) {
                 return None;
             }
-            nodes.push(decode(node, nodes.len(), names).ok()?);
+            nodes.push(decode(NEW, node, nodes.len(), names).ok()?);
             end = next;
         }
         let unused = self.words[end..].iter().chain(&self.starts[starts.len()..]);

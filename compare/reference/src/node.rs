@@ -1,11 +1,12 @@
 //! A node, and its words.
 
+use crate::layout::{Layout, CHILD, NEW};
 use crate::{Reply, MEMBERS};
 
 #[derive(Clone, Debug, PartialEq, Eq, Hash)]
 pub struct Field {
     pub optional: bool,
-    pub name: u8,
+    pub name: u16,
     pub child: u32,
 }
 
@@ -20,7 +21,7 @@ pub enum Node {
     AttrSet(Vec<Field>, Option<u32>, bool),
     Union(Vec<u32>),
     Intersection(Vec<u32>),
-    Named(u8, u32),
+    Named(u16, u32),
     Neg(u32),
 }
 
@@ -75,7 +76,7 @@ impl Head {
     }
 
     /// Whether the body under this head is free of fault 3.
-    fn body_fits(self, body: &[u32]) -> bool {
+    fn body_fits(self, layout: Layout, body: &[u32]) -> bool {
         if self.kind == 2 {
             return body[0] <= 7;
         }
@@ -85,36 +86,22 @@ impl Head {
         let (fields, children) = body.split_at(self.fields());
         let required = self.kind == 6 || fields.iter().all(|w| w >> 31 == 0);
         required
-            && fields.iter().all(|w| w >> 12 & 0x7ff == 0)
-            && children.iter().all(|w| w >> 12 == 0)
+            && fields.iter().all(|w| w & layout.zero() == 0)
+            && children.iter().all(|w| w >> CHILD == 0)
     }
 }
 
-impl Field {
-    fn of(word: u32) -> Field {
-        Field {
-            optional: word >> 31 == 1,
-            name: (word >> 23 & 0xff) as u8,
-            child: word & 0xfff,
-        }
-    }
-
-    fn word(&self) -> u32 {
-        u32::from(self.optional) << 31 | u32::from(self.name) << 23 | self.child
-    }
-}
-
-/// The node that the words are, in an arena of `below` nodes and a table of `names` names; or its
+/// The node that the words are, in this layout, in an arena of `below` nodes and a table of `names` names; or its
 /// refusal, any 3 before any 4 before 5.
-pub fn decode(words: &[u32], below: usize, names: usize) -> Reply<Node> {
+pub fn decode(layout: Layout, words: &[u32], below: usize, names: usize) -> Reply<Node> {
     let (&head, body) = words.split_first().ok_or(3)?;
     let head = Head::of(head);
-    if !head.fits() || head.count != body.len() || !head.body_fits(body) {
+    if !head.fits() || head.count != body.len() || !head.body_fits(layout, body) {
         return Err(3);
     }
-    let node = Node::of(head, body);
+    let node = Node::of(layout, head, body);
     let far = |&child: &u32| child as usize >= below;
-    let unknown = |&name: &u8| usize::from(name) >= names;
+    let unknown = |&name: &u16| usize::from(name) >= names;
     if node.children().iter().any(far) || node.names().iter().any(unknown) {
         return Err(4);
     }
@@ -125,7 +112,7 @@ pub fn decode(words: &[u32], below: usize, names: usize) -> Reply<Node> {
 }
 
 impl Node {
-    fn of(head: Head, body: &[u32]) -> Node {
+    fn of(layout: Layout, head: Head, body: &[u32]) -> Node {
         match head.kind {
             0 => Node::Bottom,
             1 => Node::Top,
@@ -135,18 +122,26 @@ impl Node {
             5 => Node::Lambda(body[0], body[1]),
             6 => {
                 let (fields, dynamic) = body.split_at(head.fields());
-                let fields = fields.iter().map(|&w| Field::of(w)).collect();
+                let fields = fields.iter().map(|&w| layout.field(w)).collect();
                 Node::AttrSet(fields, dynamic.first().copied(), head.open)
             }
             7 => Node::Union(body.to_vec()),
             8 => Node::Intersection(body.to_vec()),
-            9 => Node::Named(Field::of(body[0]).name, Field::of(body[0]).child),
+            9 => {
+                let Field { name, child, .. } = layout.field(body[0]);
+                Node::Named(name, child)
+            }
             10 => Node::Neg(body[0]),
             _ => unreachable!("no such kind"),
         }
     }
 
+    /// The node's words in the new layout.
     pub fn encode(&self) -> Vec<u32> {
+        self.encode_in(NEW)
+    }
+
+    pub fn encode_in(&self, layout: Layout) -> Vec<u32> {
         let (mut open, mut dynamic) = (false, false);
         let (kind, body) = match self {
             Node::Bottom => (0, vec![]),
@@ -157,12 +152,19 @@ impl Node {
             Node::Lambda(param, body) => (5, vec![*param, *body]),
             Node::AttrSet(fields, child, is_open) => {
                 (open, dynamic) = (*is_open, child.is_some());
-                let fields = fields.iter().map(Field::word);
+                let fields = fields.iter().map(|f| layout.word(f));
                 (6, fields.chain(*child).collect())
             }
             Node::Union(members) => (7, members.clone()),
             Node::Intersection(members) => (8, members.clone()),
-            Node::Named(name, child) => (9, vec![u32::from(*name) << 23 | child]),
+            Node::Named(name, child) => {
+                let field = Field {
+                    optional: false,
+                    name: *name,
+                    child: *child,
+                };
+                (9, vec![layout.word(&field)])
+            }
             Node::Neg(child) => (10, vec![*child]),
         };
         let head = Head {
@@ -220,7 +222,7 @@ impl Node {
         }
     }
 
-    fn names(&self) -> Vec<u8> {
+    pub fn names(&self) -> Vec<u16> {
         match self {
             Node::AttrSet(fields, _, _) => fields.iter().map(|f| f.name).collect(),
             Node::Named(name, _) => vec![*name],
@@ -232,10 +234,11 @@ impl Node {
 #[cfg(test)]
 mod tests {
     use super::*;
+    use crate::layout::OLD;
 
     /// 10 nodes below and 3 names.
     fn fault(words: &[u32]) -> u8 {
-        decode(words, 10, 3).unwrap_err()
+        decode(NEW, words, 10, 3).unwrap_err()
     }
 
     #[test]
@@ -252,19 +255,22 @@ mod tests {
         assert_eq!(fault(&[0x7000_0000]), 3, "no member");
         assert_eq!(fault(&[0x4000_0001]), 3, "a word short");
         assert_eq!(fault(&[0x4000_0001, 10]), 4, "child 10");
-        assert_eq!(fault(&[0x9000_0001, 3 << 23]), 4, "name 3");
+        assert_eq!(fault(&[0x9000_0001, 3 << 15]), 4, "name 3");
         assert_eq!(fault(&[0x6000_0002, 0, 0]), 5, "a name twice");
         assert_eq!(fault(&[0x6000_0003, 0x1000, 10, 0]), 3, "3 before 4 and 5");
-        assert_eq!(fault(&[0x6000_0003, 1 << 23, 0, 10]), 4, "4 before 5");
+        assert_eq!(fault(&[0x6000_0003, 1 << 15, 0, 10]), 4, "4 before 5");
+        for bit in 12..15 {
+            assert_eq!(fault(&[0x9000_0001, 1 << bit]), 3, "zero of a field");
+        }
     }
 
     #[test]
     fn members() {
         let list = |n: u32| [vec![0x7000_0000 + n], vec![0; n as usize]].concat();
-        assert!(decode(&list(64), 1, 0).is_ok());
-        assert_eq!(decode(&list(65), 1, 0), Err(3));
+        assert!(decode(NEW, &list(64), 1, 0).is_ok());
+        assert_eq!(decode(NEW, &list(65), 1, 0), Err(3));
         let set = |n: u32| -> Vec<u32> {
-            let fields = (0..n).map(|i| i << 23);
+            let fields = (0..n).map(|i| i << 15);
             [0x6400_0001 + n]
                 .into_iter()
                 .chain(fields)
@@ -272,10 +278,10 @@ mod tests {
                 .collect()
         };
         assert!(
-            decode(&set(64), 1, 256).is_ok(),
+            decode(NEW, &set(64), 1, 4096).is_ok(),
             "64 fields and a dynamic part"
         );
-        assert_eq!(decode(&set(65), 1, 256), Err(3));
+        assert_eq!(decode(NEW, &set(65), 1, 4096), Err(3));
     }
 
     #[test]
@@ -286,14 +292,28 @@ mod tests {
             vec![0x2000_0001, 7],
             vec![0x3000_0001, u32::MAX],
             vec![0x5000_0002, 3, 9],
-            vec![0x6c00_0003, 0x8000_0001, 1 << 23, 4],
+            vec![0x6c00_0003, 0x8000_0001, 1 << 15, 4],
             vec![0x8000_0002, 2, 2],
-            vec![0x9000_0001, 2 << 23 | 5],
+            vec![0x9000_0001, 2 << 15 | 5],
             vec![0xa000_0001, 5],
         ] {
-            let node = decode(&words, 10, 3).unwrap();
+            let node = decode(NEW, &words, 10, 3).unwrap();
             assert_eq!(node.encode(), words);
             assert_eq!(node.size(), words.len());
         }
+    }
+    /// A word that is a name in one layout is a fault in the other.
+    #[test]
+    fn the_layouts_differ() {
+        let named = |layout, word| decode(layout, &[0x9000_0001, word], 10, 256);
+        assert_eq!(named(NEW, 0x0000_8000), Ok(Node::Named(1, 0)));
+        assert_eq!(named(OLD, 0x0000_8000), Err(3));
+        assert_eq!(named(OLD, 0x0080_0000), Ok(Node::Named(1, 0)));
+        assert_eq!(named(NEW, 0x0080_0000), Err(4), "name 256");
+        assert_eq!(named(OLD, 0x7f80_0009), Ok(Node::Named(255, 9)));
+        assert_eq!(
+            Node::Named(255, 9).encode_in(OLD),
+            [0x9000_0001, 0x7f80_0009]
+        );
     }
 }

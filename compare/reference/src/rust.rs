@@ -122,7 +122,7 @@ impl Rust {
     /// The Rust's form of a node.
     pub fn put(&self, node: &Node) -> OutputTy {
         let refs = |members: &[u32]| members.iter().map(|&m| at(m)).collect();
-        let name = |name: u8| self.names[usize::from(name)].clone();
+        let name = |name: u16| self.names[usize::from(name)].clone();
         match node {
             Node::Bottom => OutputTy::Bottom,
             Node::Top => OutputTy::Top,
@@ -150,7 +150,7 @@ impl Rust {
     }
 
     fn take(&self, node: &OutputTy) -> Node {
-        let number = |name: &SmolStr| self.names.binary_search(name).unwrap() as u8;
+        let number = |name: &SmolStr| self.names.binary_search(name).unwrap() as u16;
         match node {
             OutputTy::Bottom => Node::Bottom,
             OutputTy::Top => Node::Top,

@@ -29,7 +29,7 @@ const FIRST: u32 = 0xe000;
 /// What the Rust is given in place of the name of this number.
 pub fn stand_in(number: usize) -> String {
     let code = FIRST + number as u32;
-    char::from_u32(code).expect("256 names at most").into()
+    char::from_u32(code).expect("4,096 names at most").into()
 }
 
 /// Takes a text of the Rust and writes these in the places of the stand-ins.

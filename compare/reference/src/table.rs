@@ -2,18 +2,22 @@
 
 use std::ops::Range;
 
+use crate::layout::NEW;
 use crate::Reply;
 
-/// Most names of a table, and most bytes of a name.
-pub const NAMES: usize = 256;
+/// Most bytes of a table that a host lends, and of a name.
+pub const TABLE: usize = 65_536;
 pub const LENGTH: usize = 64;
 
 /// The names in order, or refusal 1.
 pub fn check(mut bytes: &[u8]) -> Reply<Vec<String>> {
+    if bytes.len() > TABLE {
+        return Err(1);
+    }
     let mut names = Vec::new();
     while let Some((&length, rest)) = bytes.split_first() {
         let length = usize::from(length);
-        if !length_fits(length) || rest.len() < length || names.len() == NAMES {
+        if !length_fits(length) || rest.len() < length || names.len() == NEW.names {
             return Err(1);
         }
         let (name, rest) = rest.split_at(length);
@@ -80,19 +84,33 @@ mod tests {
         assert_eq!(place(table, 0), Ok(1..2));
         assert_eq!(place(table, 1), Ok(3..5));
         assert_eq!(place(table, 2), Ok(6..7));
-        for number in [3, 256, u32::MAX] {
+        for number in [3, 256, 4096, u32::MAX] {
             assert_eq!(place(table, number), Err(4));
             assert_eq!(place(b"\x02a", number), Err(1), "before 4");
         }
     }
 
     #[test]
-    fn at_most_256_names() {
+    fn at_most_4096_names() {
         let table = |n: u32| -> Vec<u8> {
             let name = |i: u32| [2, 32 + (i / 90) as u8, 32 + (i % 90) as u8];
             (0..n).flat_map(name).collect()
         };
-        assert_eq!(check(&table(256)).unwrap().len(), 256);
-        assert_eq!(check(&table(257)), Err(1));
+        assert_eq!(check(&table(4096)).unwrap().len(), 4096);
+        assert_eq!(check(&table(4097)), Err(1));
+    }
+
+    /// 1,008 names of 64 bytes take 65,520, and a last one of 15 the rest.
+    #[test]
+    fn at_most_65536_bytes() {
+        let table = |last: usize| -> Vec<u8> {
+            let full = (0..1008).map(|i| format!("{i:064}"));
+            let names = full.chain(["z".repeat(last)]);
+            let entry = |name: String| [vec![name.len() as u8], name.into_bytes()].concat();
+            names.flat_map(entry).collect()
+        };
+        assert_eq!((table(15).len(), table(16).len()), (65_536, 65_537));
+        assert_eq!(check(&table(15)).unwrap().len(), 1009);
+        assert_eq!(check(&table(16)), Err(1));
     }
 }

@@ -152,3 +152,36 @@ fn questions() {
     assert_eq!(ask(16), "ok 1");
     assert!(ask(17).starts_with("ok 2 3 7 "));
 }
+
+/// After 11 the bytes are as they were; a line that is refused is one of a sheet that is converted.
+#[test]
+fn convert() {
+    let bytes = |words: &[u32]| words.iter().flat_map(|w| w.to_be_bytes()).collect();
+    let sheet = |opening: &[u8], words: &[u32]| {
+        let words: Vec<u8> = bytes(words);
+        Case::Convert([opening, &words].concat())
+    };
+    let named = |word| {
+        let words = [0x2000_0001, 2, 0x9000_0001, word];
+        line(sheet(b"\0\x02\0\x02\0\x01\x01p\x01q", &words))
+    };
+    let opening = "000200020001017001712000000100000002";
+    assert_eq!(
+        named(0x0080_0000),
+        format!("ok {opening}9000000100008000 1 2 q")
+    );
+    assert_eq!(
+        named(0x0000_8000),
+        format!("refused 11 {opening}9000000100008000")
+    );
+    assert_eq!(line(Case::Convert(vec![])), "refused 11 ");
+    // 65 variables in two unions of one, each with both signs.
+    let mut words: Vec<u32> = (0..65).flat_map(|var| [0x3000_0001, var]).collect();
+    for (first, end) in [(0, 40), (40, 65), (65, 67)] {
+        words.push(0x7000_0000 + end - first);
+        words.extend(first..end);
+    }
+    words.extend([0x5000_0002, 67, 67]);
+    let refused = line(sheet(&[0, 0, 0, 69, 0, 68], &words));
+    assert!(refused.starts_with("ok ") && refused.ends_with(" refused 8"));
+}

@@ -1,5 +1,6 @@
 //! Names as the manual writes them: the worked names of request A1, that each reads back, and texts that have them.
 
+use reference::layout::NEW;
 use reference::node::{Field, Node};
 use reference::rust::Rust;
 use reference::sheet::{self, Sheet};
@@ -109,7 +110,7 @@ fn read_back() {
 
 #[test]
 fn stand_ins_stand_as_their_numbers() {
-    let all: Vec<String> = (0..256).map(stand_in).collect();
+    let all: Vec<String> = (0..4096).map(stand_in).collect();
     assert!(all.is_sorted_by(|left, right| left < right));
 }
 
@@ -117,7 +118,7 @@ fn strings(names: &[&str]) -> Vec<String> {
     names.iter().map(|name| name.to_string()).collect()
 }
 
-fn field(name: u8, optional: bool, child: u32) -> Field {
+fn field(name: u16, optional: bool, child: u32) -> Field {
     Field {
         optional,
         name,
@@ -161,7 +162,7 @@ fn the_line_of_a_sheet() {
         nodes,
         root: 2,
     };
-    let line = sheet::line(&sheet::write(&sheet, TEXT).unwrap(), &mut false);
+    let line = sheet::line(NEW, &sheet::write(NEW, &sheet, TEXT).unwrap(), &mut false);
     let text = r#"{ "$x": int, a: int, "or"?: int, "roll angle": "or", _: int, ... }"#;
     assert_eq!(line, Ok(format!("2 2 {text}")));
 }

@@ -3,7 +3,7 @@ use Prim.Native.Nat.{ℕ}
 use mathlib.Core.List.{List}
 use lib.ListN.{length}
 use Rattle.types.specs.Out.{Out, _>>=_}
-use Rattle.types.specs.Node.{decode}
+use Rattle.types.specs.Node.{decode, decode-in}
 use Rattle.types.specs.Arena.{Arena}
 use Rattle.types.specs.Reply.{Reply, reply-of, tabled, judged}
 use Rattle.types.specs.declared.Counters.{Counters}
@@ -12,7 +12,7 @@ use Rattle.node_store.specs.Intern.{intern}
 
 -- first the node's own faults, 3, 4, 5
 unfoldable pub interning : ℕ → ℕ → List ℕ → ℕ → Arena → Out (ℕ × Arena)
-unfolding decode intern _>>=_
+unfolding decode-in intern _>>=_
 interning words starts ws table a = decode table (length a) ws >>= λ x. intern words starts x a
 
 -- before them the table's fault, 1, and the arena's, 2

@@ -43,7 +43,7 @@ unfolding word
 put-word s n h = record { long = length-set s (n / 64) (word s n h); new = with-new s n h; old = with-old s n h }
 
 -- ---- the empty set
-zero-at : (k i : ℕ) → _≡_ {A = ℕ} (getD (replicate k 0) i 0) 0
+pub zero-at : (k i : ℕ) → _≡_ {A = ℕ} (getD (replicate k 0) i 0) 0
 zero-at zero i = refl
 zero-at (suc k) zero = refl
 zero-at (suc k) (suc i) = zero-at k i

@@ -117,35 +117,54 @@ fn put_unions(words: &mut [u32], starts: &mut [u32], count: usize) {
     }
 }
 
-// The names of two bytes, in their order.
-fn put_names(table: &mut [u8], count: usize) {
+// A name of this length, at this place: two bytes that count, and the letter a.
+fn put_name(table: &mut [u8], at: usize, number: usize, length: usize) {
+    if 70000 <= at {
+        return;
+    }
+    if 64 < length {
+        return;
+    }
+    set_byte(table, at, length as u8);
+    let mut i: usize = 0;
+    while i < length {
+        set_byte(table, at + 1 + i, 97);
+        i += 1;
+    }
+    set_byte(table, at + 1, 32 + (number / 90 % 90) as u8);
+    set_byte(table, at + 2, 32 + (number % 90) as u8);
+}
+
+// So many names of this length, in their order.
+fn put_names(table: &mut [u8], count: usize, length: usize) {
+    if 64 < length {
+        return;
+    }
     let mut i: usize = 0;
     let mut at: usize = 0;
     while i < count {
-        if 300 <= i {
+        if 4100 <= i {
             return;
         }
-        set_byte(table, at, 2);
-        set_byte(table, at + 1, 32 + (i / 90 % 90) as u8);
-        set_byte(table, at + 2, 32 + (i % 90) as u8);
-        at += 3;
+        put_name(table, at, i, length);
+        at += length + 1;
         i += 1;
     }
 }
 
-// Number 1: a table of 256 names is taken, and one of 257 is not; nor is a byte 127, a name of no byte, or a name twice.
+// Number 1: a table of 4,096 names is taken, and one of 4,097 is not; nor is a byte 127, a name of no byte, or a name twice.
 fn tables() {
     let mut words = [0u32; 8];
     let mut starts = [0u32; 4];
     let none = Counters { nodes: 0, words: 0 };
     let node = [head(Head::TY_VAR, 1), 7];
-    let mut most = [0u8; 768];
-    put_names(&mut most, 256);
-    try_intern(b"256 names", &most, &mut words, &mut starts, none, &node);
-    let mut over = [0u8; 771];
-    put_names(&mut over, 257);
+    let mut most = [0u8; 12288];
+    put_names(&mut most, 4096, 2);
+    try_intern(b"4096 names", &most, &mut words, &mut starts, none, &node);
+    let mut over = [0u8; 12291];
+    put_names(&mut over, 4097, 2);
     try_intern(
-        b"257 names",
+        b"4097 names",
         &over,
         &mut words,
         &mut starts,
@@ -168,6 +187,29 @@ fn tables() {
         &mut words,
         &mut starts,
         none,
+        &node,
+    );
+}
+
+// Number 1 by bytes: 1,008 names of 64 bytes and one of 15 fill a table, and one of 16 is a byte too much.
+fn longest_tables() {
+    let mut words = [0u32; 8];
+    let mut starts = [0u32; 4];
+    let none = Counters { nodes: 0, words: 0 };
+    let node = [head(Head::TY_VAR, 1), 7];
+    let mut most = [0u8; 65536];
+    put_names(&mut most, 1008, 64);
+    put_name(&mut most, 65520, 1008, 15);
+    try_intern(b"65536 bytes", &most, &mut words, &mut starts, none, &node);
+    let mut over = [0u8; 65537];
+    put_names(&mut over, 1008, 64);
+    put_name(&mut over, 65520, 1008, 16);
+    try_intern(
+        b"65537 bytes",
+        &over,
+        &mut words,
+        &mut starts,
+        Counters { nodes: 1, words: 2 },
         &node,
     );
 }
@@ -263,19 +305,19 @@ fn name_faults(table: &[u8], words: &mut [u32], starts: &mut [u32]) {
     );
 }
 
-// Name 255 is in a table of 256 names, and not in one of 255.
+// Name 4,095 is in a table of 4,096 names, and not in one of 4,095.
 fn last_name() {
     let mut words = [0u32; 8];
     let mut starts = [0u32; 4];
     put_vars(&mut words, &mut starts, 1);
-    let mut fewer = [0u8; 765];
-    put_names(&mut fewer, 255);
-    let mut most = [0u8; 768];
-    put_names(&mut most, 256);
+    let mut fewer = [0u8; 12285];
+    put_names(&mut fewer, 4095, 2);
+    let mut most = [0u8; 12288];
+    put_names(&mut most, 4096, 2);
     let one = Counters { nodes: 1, words: 2 };
-    let node = [head(Head::NAMED, 1), field_word(false, 255, 0)];
+    let node = [head(Head::NAMED, 1), field_word(false, 4095, 0)];
     try_intern(
-        b"name 255 of 255",
+        b"name 4095 of 4095",
         &fewer,
         &mut words,
         &mut starts,
@@ -283,7 +325,7 @@ fn last_name() {
         &node,
     );
     try_intern(
-        b"name 255 of 256",
+        b"name 4095 of 4096",
         &most,
         &mut words,
         &mut starts,
@@ -361,6 +403,7 @@ fn most_words() {
 
 fn main() {
     tables();
+    longest_tables();
     arenas();
     faults();
     last_name();

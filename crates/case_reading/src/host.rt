@@ -73,7 +73,7 @@ pub fn lend_memory(s: &[u8], at: usize, words: &mut Words, starts: &mut Words) -
     }
 }
 
-// What a host lends: the name table, which is `s[3..table]`, and memory.
+// What a host lends: the name table, which is `s[5..table]`, and memory.
 pub struct Host {
     pub table: usize,
     pub counters: Counters,
@@ -84,7 +84,7 @@ pub struct Host {
 
 // A host, behind the number of the case.
 pub fn lend_host(s: &[u8], words: &mut Words, starts: &mut Words) -> Host {
-    let table = add(3, short(s, 1));
+    let table = add(5, wide(word(s, 1)));
     let lent = lend_memory(s, table, words, starts);
     let counters = lent.counters;
     Host {

@@ -28,7 +28,7 @@ fn head(kind: u32, count: usize) -> u32 {
 }
 
 fn field(name: usize, child: u32) -> u32 {
-    if name < 256 {
+    if name < 65536 {
         if child < 4096 {
             return field_word(false, name, child);
         }

@@ -1,5 +1,6 @@
 // The text of a type in lent bytes. `display` and `display_nix` are the calls open to a host; `display_in` is for callers that
 // know the arena sound and its root there. specs/Reply.antt says what they answer and leave.
+use names::find_places;
 use node_store::stored::node_at;
 use soundness::Judged;
 use soundness::judge;
@@ -16,6 +17,7 @@ ghost use mathlib.Core.Path.{_≡_};
 ghost use Prim.Native.Nat.{min};
 ghost use Rattle.types.specs.Out.{number};
 ghost use lib.ListN.{length, replicate};
+ghost use Rattle.names.specs.Inner.{Listable, Places};
 ghost use Rattle.node_store.specs.Inner.Stored.{Lent, InRange};
 ghost use Rattle.display.specs.Inner.{Prints};
 ghost use Rattle.display.specs.Reply.{print-reply, display-reply, display-nix-reply, displayed-out, left};
@@ -56,6 +58,7 @@ fn limit_of(lent: usize) -> usize
 // a call returns at once.
 fn write_ty(
     table: &[u8],
+    places: &[u32; 4096],
     spelling: Spelling,
     words: &[u32],
     starts: &[u32],
@@ -65,6 +68,7 @@ fn write_ty(
     count: usize,
 ) -> usize
     requires { ⌜ InRange (now words) (now starts) c n ⌝ }
+    requires { ⌜ Places (now table) (now places) ⌝ }
     ensures { λ r. ⌜ Prints spelling (now (table .entry)) (now (words .entry)) (now (starts .entry)) c n (now (text .entry))
         count (now (text .exit)) r ⌝ }
 {
@@ -73,12 +77,12 @@ fn write_ty(
     }
     let node = node_at(words, starts, c, wide(n));
     let children = shown_count(node);
-    let mut end = write_beginning(table, spelling, node, text, count);
+    let mut end = write_beginning(table, places, spelling, node, text, count);
     let mut i = 0;
     while i < children {
-        end = open_child(table, spelling, words, starts, c, n, i, text, end);
+        end = open_child(table, places, spelling, words, starts, c, n, i, text, end);
         let child = child_of(words, starts, c, n, i);
-        end = write_ty(table, spelling, words, starts, c, child, text, end);
+        end = write_ty(table, places, spelling, words, starts, c, child, text, end);
         end = close_child(words, starts, c, n, i, text, end);
         i += 1;
     }
@@ -107,12 +111,16 @@ pub fn display_in(
     text: &mut [u8],
 ) -> Displayed
     requires { ⌜ InRange (now words) (now starts) c root ⌝ }
+    requires { ⌜ Listable (now table) ⌝ }
     ensures { λ r. ⌜ Displays spelling (now (table .entry)) (now (words .entry)) (now (starts .entry)) c root
         (now (text .entry)) (now (text .exit)) r ⌝ }
 {
     let limit = limit_of(text.len());
+    let mut places = [0u32; 4096];
+    find_places(table, &mut places);
     let end = write_ty(
         table,
+        &places,
         spelling,
         words,
         starts,
@@ -139,6 +147,7 @@ fn display_root(
     text: &mut [u8],
 ) -> Displayed
     requires { ⌜ Lent (now words) (now starts) c ⌝ }
+    requires { ⌜ Listable (now table) ⌝ }
     ensures { λ r. ⌜ DisplaysRoot spelling (now (table .entry)) (now (words .entry)) (now (starts .entry)) c root (now (text .entry))
         (now (text .exit)) r ⌝ }
 {

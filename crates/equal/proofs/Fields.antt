@@ -1,5 +1,5 @@
 -- Two field words, and as many of them, are the same by a map of names: by their marks and then by the map, one after another. The fields of two nodes so are spelt the same, and no others are.
-use Prim.Native.Nat.{ℕ, _+_, _*_, _<_, _≤_}
+use Prim.Native.Nat.{ℕ, _+_, _<_, _≤_}
 use mathlib.Core.Path.{_≡_, refl, sym, ap, ap₂, _∙_}
 use mathlib.Core.Bool.{Bool, true, false, not, _&&_, Bool·beq}
 use mathlib.Core.List.{List, [], _∷_, map}
@@ -10,7 +10,8 @@ use mir.Val.{Fits}
 use lib.ListN.{length, getD, drop, drop-of-length-le, List·getD-eq-default}
 use lib.Seq.{drop-cons}
 use lib.Dec.{eqb}
-use borrow.Author.Tests.{eqb-true, eq-eqb, not-true as negated, not-false}
+use borrow.Author.Tests.{eqb-true, eq-eqb, ne-eqb, not-true as negated, not-false}
+use Rattle.words.specs.declared.Layout.the-variants as layout
 use Rattle.words.specs.Words.{field-optional, field-name}
 use Rattle.words.proofs.Words.{field-bounded}
 use Rattle.types.specs.Node.{field-of, field-names, below}
@@ -44,19 +45,17 @@ module _ (ks : List ℕ) (v w : ℕ) {a b : Bool} (p : a ≡ field-optional v) (
   pub marks-differ : not (Bool·beq a b) ≡ true → false ≡ same-field ks v w
   marks-differ h = sym (by-marks (negated (Bool·beq a b) h))
 
+  -- a name past the end of the map has no entry
+  pub name-unmapped : not (Bool·beq a b) ≡ false → length ks ≡ 4096 → {i : ℕ} → i ≡ field-name v → 4096 ≤ i → false ≡ same-field ks v w
+  name-unmapped h l e m =
+      let z : getD ks (field-name v) 0 ≡ 0 = List·getD-eq-default ks 0 (omega arith) in
+      sym (by-marks (not-false (Bool·beq a b) h) ∙ ne-eqb (getD ks (field-name v) 0) (field-name w + 1) (λ q. omega arith))
+
   pub names-told : not (Bool·beq a b) ≡ false → {i j k : ℕ} → i ≡ field-name v → k ≡ getD ks i 0 → j ≡ field-name w → eqb k (j + 1) ≡ same-field ks v w
   names-told h e f g = sym (by-marks (not-false (Bool·beq a b) h) ∙ sym (ap₂ eqb (f ∙ ap (λ (x : ℕ). getD ks x 0) e) (ap (λ (x : ℕ). x + 1) g)))
 
--- the number of a name is below 256
-module _ (v : ℕ) {i : ℕ} (e : i ≡ field-name v) where
-  pub name-small : i < 256
-  name-small = omega (arith, e, field-bounded v .few-names)
-
-  pub name-place : Fits w64 (i * 4)
-  name-place = omega (arith, name-small)
-
-  pub name-next : Fits w64 (i + 1)
-  name-next = omega (arith, name-small)
+pub name-next : (w : ℕ) {j : ℕ} → j ≡ field-name w → Fits w64 (j + 1)
+name-next w e = omega (arith, e, field-bounded layout.New w .few-names)
 
 -- ---- as many of each
 -- the words passed are the same, so the rests decide

@@ -8,7 +8,7 @@ use lib.ListN.{length, getD, take, length-append}
 use borrow.Author.Tests.{eqb-true}
 use Rattle.words.specs.Words.{bit}
 use Rattle.types.specs.Kind.{disc, body-count}
-use Rattle.types.specs.Node.{positive, negative, field, primitive, list, lambda, attrset, named, Tag, members, bound, var, neg, form, node, kind, data-of, child-words, body, field-of}
+use Rattle.types.specs.Node.{positive, negative, field, primitive, list, lambda, attrset, named, Tag, members, bound, var, neg, form, node, kind, data-of, child-words, child-words-in, body, field-of}
 use Rattle.types.proofs.Nodes.{nil, cons, Formed, length-child-words, fields-back}
 use Rattle.node_order.specs.WordsOrder.{field-count}
 use Rattle.names.specs.Table.{Name}
@@ -21,7 +21,7 @@ pub record Plain (ns : List Name) (t : Tag) (cs : List ℕ) : Type 0 where
   pub short : length (body (node t cs)) ≤ 1
 
 pub plain : (ns : List Name) (t : Tag) (cs : List ℕ) → Formed t cs → disc (kind t) < 4 → Plain ns t cs
-unfolding body-count child-words
+unfolding body-count child-words-in
 plain ns (members positive) cs F h = absurd (omega arith)
 plain ns (members negative) cs F h = absurd (omega arith)
 plain ns (bound positive) cs F h =
@@ -48,7 +48,7 @@ pub record Fielded (t : Tag) (cs : List ℕ) : Type 0 where
   pub fields : data-of t .fields ≡ map field-of (take (field-count (disc (kind t)) (data-of t .dynamic) (length (body (node t cs)))) (body (node t cs)))
 
 pub fielded : (t : Tag) (cs : List ℕ) → Formed t cs → 4 ≤ disc (kind t) → Fielded t cs
-unfolding field-count child-words body-count
+unfolding field-count child-words-in body-count
 fielded (members positive) cs F h = record { numberless = refl; fields = refl }
 fielded (members negative) cs F h = record { numberless = refl; fields = refl }
 fielded (bound positive) cs F h = absurd (omega arith)

@@ -1,5 +1,5 @@
 -- One walk through two tables matches their names: both rise, so of two names that differ the lesser is in the other table no more.
-use Prim.Native.Nat.{ℕ, zero, suc, _+_, _-_, _*_, _<_, _≤_}
+use Prim.Native.Nat.{ℕ, suc, _+_, _-_, _*_, _<_, _≤_}
 use mathlib.Core.Path.{_≡_, refl, sym, ap, ap₂, _∙_, subst}
 use mathlib.Core.List.{List, [], _∷_, _++_}
 use mathlib.Core.Logic.{_⊎_, inl, inr}
@@ -11,6 +11,7 @@ use mir.Syntax.{w32, w64}
 use mir.Val.{Fits}
 use lib.ListN.{length, getD, set, take, drop, replicate, length-set, length-drop, length-replicate, drop-of-length-le}
 use lib.Seq.{drop-cons, take-at, drop-at, getD-set-same, getD-set-other}
+use Rattle.bits.proofs.Sets.{zero-at}
 use Rattle.types.specs.Order.{reversed}
 use Rattle.types.specs.declared.Ordering.{Ordering}
 use Rattle.types.specs.declared.Ordering.the-variants.{Less, Equal, Greater}
@@ -24,14 +25,8 @@ use Rattle.equal.specs.declared.matching.Reading.{Reading}
 use Rattle.equal.specs.Inner.Names.{Matches, Maps, Blank, Place, Read, Next, Steps}
 use Rattle.equal.proofs.OnePartner.{text-number}
 
--- ---- an array of zeros
-pub zeros : (n k : ℕ) → _≡_ {A = ℕ} (getD (replicate n 0) k 0) 0
-zeros zero k = refl
-zeros (suc n) zero = refl
-zeros (suc n) (suc k) = zeros n k
-
-pub blank : {t u : List ℕ} {ns ms : List Name} → names-of t ≡ some ns → names-of u ≡ some ms → Blank t u (replicate 256 0)
-blank {ns = ns} {ms} p q = record { left = ns; left-is = p; right = ms; right-is = q; long = length-replicate {A = ℕ} 256 0; none = zeros 256 }
+pub blank : {t u : List ℕ} {ns ms : List Name} → names-of t ≡ some ns → names-of u ≡ some ms → Blank t u (replicate 4096 0)
+blank {ns = ns} {ms} p q = record { left = ns; left-is = p; right = ms; right-is = q; long = length-replicate {A = ℕ} 4096 0; none = zero-at 4096 }
 
 -- ---- one table
 place-start : {t : List ℕ} {ns : List Name} → names-of t ≡ some ns → Place t ns 0 0
@@ -165,10 +160,10 @@ module _ {t u ks : List ℕ} {r : Reading} (N : Next t u ks r) where
   right-in = place-more (R .right-place) (N .right-more)
 
   -- numbers of names are small
-  pub left-few : r .left < 256
+  pub left-few : r .left < 4096
   left-few = omega (arith, left-in, names-few t (R .left) (R .left-place .is))
 
-  right-few : r .right < 256
+  right-few : r .right < 4096
   right-few = omega (arith, right-in, names-few u (R .right) (R .right-place .is))
 
   pub left-byte : Fits w64 (r .left * 4)

@@ -8,7 +8,7 @@ use native.Mathlib.Omega.{arith}
 use lib.ListN.{length, getD}
 use Rattle.words.specs.Words.{head-word}
 use Rattle.types.specs.Kind.{disc}
-use Rattle.types.specs.Node.{Field, field, Tag, Node, node, tag, children, kind, data-of, field-names, names, child-words, encode, head-of, below, linked}
+use Rattle.types.specs.Node.{Field, field, Tag, Node, node, tag, children, kind, data-of, field-names, names, child-words, encode, encode-in, head-of, below, linked}
 use Rattle.types.specs.Arena.{Arena, at, find, sound}
 use Rattle.types.proofs.Tests.{and-true}
 use Rattle.types.proofs.Lists.{below-cons, below-more}
@@ -63,7 +63,7 @@ linked-names table n (node t cs) e = and-true (below n cs) (below table (names t
 
 same-words : (t u : Tag) (cs ds : List ℕ) → disc (kind t) ≡ disc (kind u) → data-of t .numbers ≡ data-of u .numbers → data-of t .fields ≡ data-of u .fields → data-of t .dynamic ≡ data-of u .dynamic → data-of t .opened ≡ data-of u .opened
     → cs ≡ ds → encode (node t cs) ≡ encode (node u ds)
-unfolding encode head-of
+unfolding encode-in head-of
 same-words t u cs ds k n f d o c = λ i.
     head-word (k i) (o i) (d i) (length (n i ++ child-words (f i) (c i))) ∷ n i ++ child-words (f i) (c i)
 

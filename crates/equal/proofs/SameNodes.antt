@@ -11,7 +11,7 @@ use borrow.Author.Tests.{eqb-true, eq-eqb}
 use Rattle.words.specs.Words.{head-word, head-kind, head-open, head-dynamic}
 use Rattle.types.specs.Same.{same}
 use Rattle.types.specs.Kind.{disc}
-use Rattle.types.specs.Node.{Field, Node, node, tag, children, kind, data-of, field-names, body, head-of, encode, below, formed, field-of}
+use Rattle.types.specs.Node.{Field, Node, node, tag, children, kind, data-of, field-names, body, head-of, encode, encode-in, below, formed, field-of}
 use Rattle.types.proofs.Tests.{and-true, both, not-true, same-truth, same-true, same-if}
 use Rattle.types.proofs.Nodes.{formed-parts, encode-kind, encode-open, encode-dynamic}
 use Rattle.node_order.specs.WordsOrder.{field-count}
@@ -56,19 +56,19 @@ same-heads ns ms x y A =
     λ i. head-word (k i) (o i) (d i) (same-lengths ns ms x y A i)
 
 encode-length : (x : Node) → length (encode x) ≡ suc (length (body x))
-unfolding encode
+unfolding encode-in
 encode-length x = refl
 
 encode-head : (x : Node) → getD (encode x) 0 0 ≡ head-of x
-unfolding encode
+unfolding encode-in
 encode-head x = refl
 
 encode-body : (x : Node) → drop 1 (encode x) ≡ body x
-unfolding encode
+unfolding encode-in
 encode-body x = refl
 
 encode-own : (x : Node) → getD (encode x) 1 0 ≡ getD (body x) 0 0
-unfolding encode
+unfolding encode-in
 encode-own x = refl
 
 module _ (ks v w : List ℕ) where

@@ -11,13 +11,14 @@ use mir.Val.{Fits}
 use lib.ListN.{length, getD, set, length-set, replicate, length-replicate}
 use lib.Seq.{getD-set-same, getD-set-other}
 use borrow.Author.Tests.{not-true, not-false}
+use Rattle.bits.proofs.Sets.{zero-at}
 use Rattle.types.specs.declared.Counters.{Counters}
 use Rattle.types.proofs.Tests.{same-if, same-not}
 use Rattle.types.proofs.Sound.{child-lower}
 use Rattle.equal.specs.Equal.{tree, tree-dec, equal}
 use Rattle.equal.specs.Inner.Names.{Maps, Blank}
 use Rattle.equal.specs.Inner.Pairs.{Pair, Side, Mapped, Matched, Agreeing, Below, Visit, Visiting, Visited, Fresh, Decides, Roots, Tells}
-use Rattle.equal.proofs.Merging.{zeros, blank}
+use Rattle.equal.proofs.Merging.{blank}
 use Rattle.equal.proofs.Descending.{child-trees, alike-trees, side-small}
 
 pub record Sweep (ks w s : List ℕ) (c : Counters) (m : ℕ) (v r : List ℕ) (d : Counters) (n : ℕ) (ps : List ℕ) (k : ℕ) : Type 0 where
@@ -34,7 +35,7 @@ pub record Sweep (ks w s : List ℕ) (c : Counters) (m : ℕ) (v r : List ℕ) (
   pub closed : (X : Mapped ks w s c v r d) → (j q : ℕ) → k ≤ j → Pair ps j q
       → Matched (X .left .names) (X .left .view) (X .right .names) (X .right .view) ps j q
 
-pub unmatched : {t w s : List ℕ} {c : Counters} {m : ℕ} {u v r : List ℕ} {d : Counters} {n : ℕ} → Roots t w s c m u v r d n → Blank t u (replicate 256 0)
+pub unmatched : {t w s : List ℕ} {c : Counters} {m : ℕ} {u v r : List ℕ} {d : Counters} {n : ℕ} → Roots t w s c m u v r d n → Blank t u (replicate 4096 0)
 unmatched S = blank (S .sides .left .is) (S .sides .right .is)
 
 module _ {t w s : List ℕ} {c : Counters} {m : ℕ} {u v r : List ℕ} {d : Counters} {n : ℕ} {ks : List ℕ} (S : Roots t w s c m u v r d n) (K : Maps t u ks) where
@@ -49,7 +50,7 @@ module _ {t w s : List ℕ} {c : Counters} {m : ℕ} {u v r : List ℕ} {d : Cou
     left-inside = S .left-inside;
     right-inside = S .right-inside;
     long = length-replicate {A = ℕ} 4096 0;
-    none = zeros 4096;
+    none = zero-at 4096;
   }
 
   pub decided : {o : Bool} → Decides ks w s c m v r d n o → Tells t w s c m u v r d n o

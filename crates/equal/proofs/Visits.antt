@@ -30,6 +30,9 @@ module _ {ks w s : List ℕ} {c : Counters} {v r : List ℕ} {d : Counters} {n :
   pub visit-small : n < 4096
   visit-small = side-small (V′ .sides .left) (V′ .inside)
 
+  pub visit-map : length ks ≡ 4096
+  visit-map = V′ .sides .matches .long
+
   pub visit-left : InRange w s c n
   visit-left = record { lent = side-lent (V′ .sides .left); inside = V′ .inside }
 

@@ -13,7 +13,7 @@ struct Reading {
 }
 
 // Compares the next two names, and passes the lesser, or both.
-fn step(left: &[u8], right: &[u8], names: &mut [u32; 256], r: Reading) -> Reading
+fn step(left: &[u8], right: &[u8], names: &mut [u32; 4096], r: Reading) -> Reading
     requires { ⌜ Next (now left) (now right) (now names) r ⌝ }
     ensures { λ q. ⌜ Steps (now (left .entry)) (now (right .entry)) r (now (names .exit)) q ⌝ }
 {
@@ -52,7 +52,7 @@ fn step(left: &[u8], right: &[u8], names: &mut [u32; 256], r: Reading) -> Readin
 }
 
 // Maps the number of each name of the left table to the number, and one, of the name of the right with the same text.
-pub(crate) fn match_names(left: &[u8], right: &[u8], names: &mut [u32; 256])
+pub(crate) fn match_names(left: &[u8], right: &[u8], names: &mut [u32; 4096])
     requires { ⌜ Blank (now left) (now right) (now names) ⌝ }
     ensures { λ u. ⌜ Maps (now (left .entry)) (now (right .entry)) (now (names .exit)) ⌝ }
 {

@@ -11,17 +11,23 @@ ghost use lib.ListN.{length, getD};
 ghost use Rattle.equal.specs.Inner.Data.{same-field, same-fields, SameData};
 
 // Whether two fields are both optional or both not, and have the same name.
-fn same_field(names: &[u32; 256], v: u32, w: u32) -> bool
+fn same_field(names: &[u32; 4096], v: u32, w: u32) -> bool
+    requires { ⌜ length (now names) ≡ 4096 ⌝ }
     ensures { λ r. ⌜ r ≡ same-field (now (names .entry)) v w ⌝ }
 {
     if field_optional(v) != field_optional(w) {
         return false;
     }
-    wide(names[field_name(v)]) == field_name(w) + 1
+    let name = field_name(v);
+    if name >= 4096 {
+        return false;
+    }
+    wide(names[name]) == field_name(w) + 1
 }
 
 // The same of as many field words.
-fn same_fields(names: &[u32; 256], e: &[u32], f: &[u32]) -> bool
+fn same_fields(names: &[u32; 4096], e: &[u32], f: &[u32]) -> bool
+    requires { ⌜ length (now names) ≡ 4096 ⌝ }
     requires { ⌜ length (now e) ≡ length (now f) ⌝ }
     ensures { λ r. ⌜ r ≡ same-fields (now (names .entry)) (now (e .entry)) (now (f .entry)) ⌝ }
 {
@@ -47,7 +53,8 @@ fn own_word(node: &[u32]) -> u32
 
 // Whether two nodes, each given by its words, have the same data and as many children. Heads of equal words have the same
 // kind, flags and count; below kind 4 a node's only other word is its own number.
-pub(crate) fn same_data(names: &[u32; 256], a: &[u32], b: &[u32]) -> bool
+pub(crate) fn same_data(names: &[u32; 4096], a: &[u32], b: &[u32]) -> bool
+    requires { ⌜ length (now names) ≡ 4096 ⌝ }
     requires { ⌜ 0 < length (now a) ⌝ }
     ensures { λ r. ⌜ SameData (now (names .entry)) (now (a .entry)) (now (b .entry)) r ⌝ }
 {

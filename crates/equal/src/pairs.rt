@@ -64,7 +64,7 @@ fn partner_of(partners: &[u16; 4096], n: usize) -> usize
 
 // Compares node n of the left with its partner, if it has one, and pairs their children; false where the two can't be equal.
 fn visit(
-    names: &[u32; 256],
+    names: &[u32; 4096],
     left_words: &[u32],
     left_starts: &[u32],
     left: Counters,
@@ -93,7 +93,7 @@ fn visit(
 
 // Pairs the roots, and then all nodes below them; whether no pair is refuted.
 fn sweep(
-    names: &[u32; 256],
+    names: &[u32; 4096],
     left_words: &[u32],
     left_starts: &[u32],
     left: Counters,
@@ -149,7 +149,7 @@ pub(crate) fn agree(
     ensures { λ r. ⌜ Tells (now («left_table» .entry)) (now («left_words» .entry)) (now («left_starts» .entry)) left «left_root»
         (now («right_table» .entry)) (now («right_words» .entry)) (now («right_starts» .entry)) right «right_root» r ⌝ }
 {
-    let mut names = [0u32; 256];
+    let mut names = [0u32; 4096];
     match_names(left_table, right_table, &mut names);
     let mut partners = [0u16; 4096];
     sweep(

@@ -9,7 +9,7 @@ use lib.ListN.{length, getD, take, drop, drop-of-length-le, length-map, List·ge
 use lib.Seq.{drop-cons}
 use Rattle.words.specs.Words.{head-kind, child}
 use Rattle.types.specs.Kind.{disc}
-use Rattle.types.specs.Node.{Tag, var, Node, node, tag, kind, children, encode}
+use Rattle.types.specs.Node.{Tag, var, Node, node, tag, kind, children, encode, encode-in}
 use Rattle.types.specs.Arena.{Arena, at}
 use Rattle.types.specs.Fault.{children-in}
 use Rattle.types.specs.declared.Counters.{Counters}
@@ -32,11 +32,11 @@ use Rattle.free_vars.proofs.Listings.{shown, marked-last, fresh-room, l
 -- ---- the body of a variable's node
 module _ (v : ℕ) where
   var-word : (x : Node) → tag x ≡ var v → getD (drop 1 (encode x)) 0 0 ≡ v
-  unfolding encode
+  unfolding encode-in
   var-word (node t cs) e = ap (λ (s : Tag). getD (drop 1 (encode (node s cs))) 0 0) e
 
   var-words : (x : Node) → tag x ≡ var v → 0 < length (drop 1 (encode x))
-  unfolding encode
+  unfolding encode-in
   var-words (node t cs) e = subst (λ (s : Tag). 0 < length (drop 1 (encode (node s cs)))) (sym e) (omega arith)
 
 module _ {w s : List ℕ} {c : Counters} {n : ℕ} {done vars : List ℕ} {count : ℕ} (C : Collecting w s c n done vars count) where
@@ -75,11 +75,11 @@ module _ {w s : List ℕ} {c : Counters} {n : ℕ} {done vars : List ℕ} {count
       its-words = N .is _ view (C .lent .holds) ∙ ap (λ (k : ℕ). encode (at view k)) e
 
       pub collect-head : 0 < length ws
-      unfolding encode
+      unfolding encode-in
       collect-head = rw its-words (omega arith)
 
       its-kind : {k : ℕ} → k ≡ head-kind (getD ws 0 0) → k ≡ disc (kind (tag (at view n)))
-      unfolding encode
+      unfolding encode-in
       its-kind q = q ∙ ap (λ (r : List ℕ). head-kind (getD r 0 0)) its-words ∙ encode-kind (at view n) (at-formed _ view (C .lent .holds .good) n low)
 
       -- ---- a variable that isn't marked

@@ -8,7 +8,7 @@ use native.Mathlib.Omega.{arith}
 use lib.ListN.{length}
 use borrow.Author.Tests.{eqb-true}
 use Rattle.types.specs.Kind.{disc, body-count}
-use Rattle.types.specs.Node.{positive, negative, Tag, members, bound, var, neg, form, primitive, list, lambda, attrset, named, Node, node, tag, kind, children, child-words, formed}
+use Rattle.types.specs.Node.{positive, negative, Tag, members, bound, var, neg, form, primitive, list, lambda, attrset, named, Node, node, tag, kind, children, child-words-in, formed}
 use Rattle.types.specs.Arena.{Arena, at, fold, find, sound}
 use Rattle.types.proofs.Nodes.{nil, formed-parts}
 use Rattle.types.proofs.Sound.{at-formed, fold-at, at-find}
@@ -43,7 +43,7 @@ other-vars (form x) f vs = refl
 
 -- a variable has no children
 pub var-alone : (x : Node) (v : ℕ) → formed x ≡ true → tag x ≡ var v → x ≡ node (var v) []
-unfolding body-count child-words
+unfolding body-count child-words-in
 var-alone (node t cs) v e q = ap (λ (s : Tag). node s cs) q ∙ ap (node (var v)) (nil cs (omega (arith, eqb-true (suc (length cs)) 1 (formed-parts (var v) cs (rw q at e) .counted))))
 
 module _ (table : ℕ) (a : Arena) (h : sound table a ≡ true) where

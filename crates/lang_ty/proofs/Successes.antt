@@ -1,12 +1,13 @@
--- 0 means success, and a refusal's number is at most 10, of every call that can be refused: after the numbers that calls share, 1, 2 and 6, come those of the call's own.
+-- 0 means success, and a refusal's number is at most 10, or 11 where a sheet is converted, of every call that can be refused: after the numbers that calls share, 1, 2 and 6, come those of the call's own.
 use Prim.Native.Nat.{ℕ, min}
 use native.Mathlib.Omega.{arith}
 use mathlib.Core.Path.{_≡_}
 use mathlib.Core.List.{List, []}
 use lib.ListN.{length}
 use lib.Dec.{ltb, leb}
+use Rattle.words.specs.declared.Layout.the-variants as layout
 use Rattle.types.specs.Out.{Out, ok, refuse}
-use Rattle.types.specs.Node.{tag, names, guess, is-words, linked, rising, decode}
+use Rattle.types.specs.Node.{tag, names, guess, is-words, linked, rising, decode, decode-in}
 use Rattle.types.specs.Arena.{Arena, at}
 use Rattle.types.specs.Memory.{arena-of}
 use Rattle.types.specs.Reply.{Reply, reply, reply-of, tabled, judged}
@@ -23,7 +24,10 @@ use Rattle.spelling.specs.declared.Spelling.{Spelling}
 use Rattle.spelling.specs.declared.Spelling.the-variants as spelling
 use Rattle.text_writing.specs.Text.{type-text}
 use Rattle.display.specs.Reply.{displaying, print-reply, display-reply, display-nix-reply, reply-of as display-of}
+use Rattle.sheet_reading.specs.Sheet.{Sheet, read-sheet-in}
+use Rattle.sheet_writing.specs.Bytes.{sheet-bytes}
 use Rattle.sheet_writing.specs.Reply.{bytes-with, fitting, write-sheet-reply, reply-of as sheet-of}
+use Rattle.sheet_converting.specs.Convert.{converting, convert-reply}
 use Rattle.recursion.proofs.Answers.{ok-refuse}
 use Rattle.recursion.specs.Hosted.{Work, work-reply}
 use Rattle.renumber.specs.Renumber.{normalize}
@@ -32,7 +36,7 @@ use Rattle.simplify.specs.Simplify.{answered, simplify-reply}
 use Rattle.compact.specs.Compact.{over-limit, limited, cleared, empty, source, compacted, compact-reply}
 use Rattle.lang_ty.specs.Theorems.{ToldZero, ArenaZero}
 use Rattle.lang_ty.specs.Told.{as-number}
-use Rattle.lang_ty.specs.Numbered.{Numbered, value, refusal, answer-of, length-of}
+use Rattle.lang_ty.specs.Numbered.{Numbered, value, refusal, Converted, done, eleven, answer-of, length-of}
 use Rattle.lang_ty.specs.Theorems.{AllNumbered}
 use Rattle.lang_ty.proofs.Numbers.{NumberedJob, refusal-high, refusal-low, by-test, required-numbered, then-numbered, rooted-numbered, intern-numbered}
 use Rattle.lang_ty.proofs.Passes.{simplify-numbered}
@@ -103,13 +107,22 @@ pub write-sheet-numbered : (t w s : List ℕ) (c : Counters) (root : ℕ) (b : L
 unfolding write-sheet-reply
 write-sheet-numbered t w s c root b = sheet-of-numbered b (then-numbered (ask-numbered (bytes-with (split t)) t w s c root) (fitting-numbered b))
 
+converting-numbered : (b : List ℕ) (o : Out Sheet) → Converted (length-of (converting b o))
+unfolding converting
+converting-numbered b (ok sh) = done (length (sheet-bytes sh))
+converting-numbered b (refuse e) = eleven
+
+convert-numbered : (b : List ℕ) → Converted (length-of (convert-reply b))
+unfolding convert-reply
+convert-numbered b = converting-numbered b (read-sheet-in layout.Old b)
+
 -- an answer told as a number
 pub as-number-numbered : {A : Type 0} (f : A → ℕ) {o : Out A} → Numbered o → Numbered (as-number f o)
 as-number-numbered f N = then-numbered N (λ x. value (f x))
 
 -- ---- calls that change an arena
 decode-numbered : (table nodes : ℕ) (ws : List ℕ) → Numbered (decode table nodes ws)
-unfolding decode
+unfolding decode-in
 decode-numbered table nodes ws =
     by-test Numbered (is-words ws (guess ws))
     (by-test Numbered (linked table nodes (guess ws)) (by-test Numbered (rising (names (tag (guess ws)))) (value (guess ws)) (refusal (omega arith) (omega arith))) (refusal (omega arith) (omega arith)))
@@ -153,6 +166,7 @@ all-numbered = record {
   display = display-numbered;
   display-nix = display-nix-numbered;
   write-sheet = write-sheet-numbered;
+  convert-sheet = convert-numbered;
   intern = intern-reply-numbered;
   simplify = simplify-reply-numbered;
   normalize-vars = λ replacing. work-numbered (normalize replacing) (λ words starts. normalize-numbered words starts replacing);

@@ -1,4 +1,5 @@
--- 0 means success and a refusal has a number from 1 to 10, so that a host can rely on what it is told (01, "Who can cause which number").
+-- 0 means success and a refusal has a number from 1 to 10, or 11 from `convert_sheet` alone, so that a host can rely on what it is told (01,
+-- "Who can cause which number"; 02, A2).
 use Prim.Native.Nat.{ℕ, _<_, _≤_}
 use mathlib.Core.Path.{_≡_}
 use Rattle.types.specs.Out.{Out, ok, refuse}
@@ -9,6 +10,11 @@ use Rattle.display.specs.Reply.{Reply as DisplayReply, reply as display-told}
 pub data Numbered {A : Type 0} : Out A → Type 0 where
   value : (x : A) → Numbered (ok x)
   refusal : {e : ℕ} → 0 < e → e ≤ 10 → Numbered (refuse e)
+
+-- an answer of `convert_sheet`: a value, or refused by 11
+pub data Converted {A : Type 0} : Out A → Type 0 where
+  done : (x : A) → Converted (ok x)
+  eleven : Converted (refuse 11)
 
 -- a host that is told the number r, with x where the result is lent, knows of the answer o that it was told: r is 0 exactly if o is a
 -- value, and then x is that value; and r is at most 10

@@ -10,7 +10,7 @@ use Rattle.types.specs.declared.Counters.{Counters}
 use Rattle.equal.specs.Reply.{equal-reply}
 use Rattle.compact.specs.Compact.{compact-reply}
 use Rattle.lang_ty.specs.Told.{told, tell, told-arena, tell-arena}
-use Rattle.lang_ty.specs.Numbered.{Numbered, ZeroIsValue, answer-of, length-of}
+use Rattle.lang_ty.specs.Numbered.{Numbered, Converted, ZeroIsValue, answer-of, length-of}
 use Rattle.types.specs.Arena.{Arena, sound}
 use Rattle.types.specs.Memory.{Holds}
 use Rattle.walks.specs.Asked.{ask-reply}
@@ -22,6 +22,7 @@ use Rattle.arena.specs.Compare.{compare-reply}
 use Rattle.text_writing.specs.Theorems.{PlainType}
 use Rattle.display.specs.Reply.{display-reply, display-nix-reply}
 use Rattle.sheet_writing.specs.Reply.{write-sheet-reply}
+use Rattle.sheet_converting.specs.Convert.{convert-reply}
 use Rattle.recursion.specs.Hosted.{work-reply}
 use Rattle.renumber.specs.Renumber.{normalize}
 use Rattle.set_op_lists.specs.SetOps.{normalize-set-ops}
@@ -57,8 +58,8 @@ PlainPrintsAlike =
     → ((table : ℕ) (a : Arena) → Holds table w s c a → PlainType (split t) a root)
     → display-nix-reply t w s c root b ≡ display-reply t w s c root b
 
--- of what each call is defined to answer the number is 0 exactly for a value, and at most 10. A call that is never refused isn't listed: it
--- always answers 0
+-- of what each call is defined to answer the number is 0 exactly for a value, and at most 10, but for `convert_sheet` 0 or 11. A call that is
+-- never refused isn't listed: it always answers 0
 pub record AllNumbered : Type 1 where
   pub table : (t : List ℕ) → Numbered (table-reply t)
   pub name : (t : List ℕ) (number : ℕ) → Numbered (name-reply t number)
@@ -68,6 +69,7 @@ pub record AllNumbered : Type 1 where
   pub display : (t w s : List ℕ) (c : Counters) (root : ℕ) (b : List ℕ) → Numbered (length-of (display-reply t w s c root b))
   pub display-nix : (t w s : List ℕ) (c : Counters) (root : ℕ) (b : List ℕ) → Numbered (length-of (display-nix-reply t w s c root b))
   pub write-sheet : (t w s : List ℕ) (c : Counters) (root : ℕ) (b : List ℕ) → Numbered (length-of (write-sheet-reply t w s c root b))
+  pub convert-sheet : (b : List ℕ) → Converted (length-of (convert-reply b))
   pub intern : (t w s : List ℕ) (c : Counters) (ws : List ℕ) → Numbered (answer-of (intern-reply t w s c ws))
   pub simplify : (t w s : List ℕ) (c : Counters) (root : ℕ) → Numbered (answer-of (simplify-reply t w s c root))
   pub normalize-vars : (replacing : Bool) (t w s : List ℕ) (c : Counters) (root : ℕ)

@@ -35,6 +35,10 @@ pub data ToldText : Type 0 where
 abbrev pub tell-text : ℕ → text.Reply → ToldText
 tell-text old (text.reply o b) = told-text (number o) (or-left old o) b
 
+-- the same of `convert_sheet`, which is lent bytes and no other result
+abbrev pub tell-converted : text.Reply → Told (List ℕ)
+tell-converted (text.reply o b) = told (number o) b
+
 -- an order as a number: that of the header (host/lang_ty.h). A yes or no is 1 or 0, by `bit` of `words`
 abbrev pub order-number : Ordering → ℕ
 order-number ordering.Less = 0

@@ -1,3 +1,4 @@
 pub mod Storing
 pub mod Orders
 pub mod Lengths
+pub mod Converting

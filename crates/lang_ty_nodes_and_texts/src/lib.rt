@@ -12,6 +12,8 @@ use names::Placed;
 use names::Table;
 use names::check_names;
 use names::name_stretch;
+use sheet_converting::Converted;
+use sheet_converting::convert_sheet;
 use sheet_format::sheet_line;
 use sheet_writing::Written;
 use sheet_writing::write_sheet;
@@ -28,8 +30,9 @@ ghost use Rattle.arena.specs.Intern.{intern-reply};
 ghost use Rattle.arena.specs.Compare.{compare-reply, compared-out};
 ghost use Rattle.display.specs.Reply.{display-reply, display-nix-reply, displayed-out};
 ghost use Rattle.sheet_writing.specs.Reply.{write-sheet-reply, written-out};
+ghost use Rattle.sheet_converting.specs.Convert.{convert-reply};
 ghost use Rattle.sheet_format.specs.Line.{WritesLine};
-ghost use Rattle.lang_ty.specs.Told.{told, tell, told-arena, tell-arena, told-text, tell-text, as-number, order-number};
+ghost use Rattle.lang_ty.specs.Told.{told, tell, told-arena, tell-arena, told-text, tell-text, tell-converted, as-number, order-number};
 
 // The number of the node with these words, which is added where the arena has none.
 #[no_mangle]
@@ -259,6 +262,18 @@ pub extern "C" fn lang_ty_write_sheet(
     };
     *len = size;
     0
+}
+
+// An old sheet made a new one, in place.
+#[no_mangle]
+pub extern "C" fn lang_ty_convert_sheet(sheet: &mut [u8]) -> u32
+    ensures { λ r. ⌜ told r (now (sheet .exit)) ≡ tell-converted (convert-reply (now (sheet .entry))) ⌝ }
+{
+    let converted = convert_sheet(sheet);
+    match converted {
+        Converted::Sheet => 0,
+        Converted::Refused(e) => e,
+    }
 }
 
 // The line of a sheet, and how many bytes it has.

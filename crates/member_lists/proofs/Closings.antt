@@ -9,7 +9,7 @@ use lib.Seq.{length-take-le, take-all, take-suc}
 use borrow.Author.Tests.{eqb-true}
 use Rattle.types.specs.Out.{Out, ok, _>>=_}
 use Rattle.types.specs.Kind.{disc, body-count}
-use Rattle.types.specs.Node.{Polarity, positive, negative, members, bound, Node, node, tag, children, kind, child-words, below, formed}
+use Rattle.types.specs.Node.{Polarity, positive, negative, members, bound, Node, node, tag, children, kind, child-words-in, below, formed}
 use Rattle.types.specs.Arena.{Arena, at, sound}
 use Rattle.types.specs.Places.{opposite}
 use Rattle.types.specs.Memory.{Holds}
@@ -86,7 +86,7 @@ module _ {w s : List ℕ} {c : Counters} {number : ℕ} {items : List ℕ} {coun
 
 -- ---- the whole
 formed-bound : (k : Polarity) (cs : List ℕ) → formed (node (bound k) cs) ≡ true → cs ≡ []
-unfolding body-count child-words
+unfolding body-count child-words-in
 formed-bound positive cs e = nil cs (eqb-true (length cs) 0 (formed-parts (bound positive) cs e .counted))
 formed-bound negative cs e = nil cs (eqb-true (length cs) 0 (formed-parts (bound negative) cs e .counted))
 

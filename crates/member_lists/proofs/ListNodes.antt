@@ -9,7 +9,7 @@ use lib.ListN.{length, getD, take, set, replicate, length-set}
 use lib.Seq.{length-take-le, take-suc, take-suc-set}
 use Rattle.words.specs.Words.{HeadFits, head-word}
 use Rattle.types.specs.Kind.{disc}
-use Rattle.types.specs.Node.{Polarity, members, node, kind, child-words, head-of, encode, below, IsNode}
+use Rattle.types.specs.Node.{Polarity, members, node, kind, child-words-in, head-of, encode, encode-in, below, IsNode}
 use Rattle.types.specs.Arena.{Arena, at}
 use Rattle.types.specs.Memory.{Holds}
 use Rattle.types.specs.declared.Counters.{Counters}
@@ -49,7 +49,7 @@ module _ {head : ℕ} {items : List ℕ} {count : ℕ} where
 
 -- ---- several members
 list-encode : (k : Polarity) (l : List ℕ) → encode (node (members k) l) ≡ head-word (disc (kind (members k))) false false (length l) ∷ l
-unfolding encode head-of child-words
+unfolding encode-in head-of child-words-in
 list-encode k l = refl
 
 nodes-few : {table : ℕ} {w s : List ℕ} {c : Counters} {a : Arena} → Holds table w s c a → length a ≤ 4096

@@ -1,15 +1,16 @@
 -- The check of a table, name after name: the bytes are a table exactly if those that are left go on with it, whatever the bytes of the names are, and its odd bytes are as many as its odd length bytes.
-use Prim.Native.Nat.{ℕ, _+_, _*_, _<_, _≤_}
+use Prim.Native.Nat.{ℕ, _+_, _<_, _≤_}
 use mathlib.Core.Path.{_≡_, refl, sym, ap, ap₂, _∙_}
 use mathlib.Core.Bool.{Bool, true, false, not, _&&_}
 use mathlib.Core.List.{List, [], _∷_, _++_}
 use native.Mathlib.Omega.{arith}
-use mir.Syntax.{w16}
+use mir.Syntax.{w32}
 use mir.Val.{Fits}
 use lib.ListN.{length, getD, take, drop, take-append-drop, drop-of-length-le}
 use lib.Seq.{take-at, drop-at}
 use lib.Dec.{leb}
 use borrow.Author.Tests.{leb-true, le-leb, not-true, not-false}
+use Rattle.words.specs.declared.Layout.the-variants as layout
 use Rattle.types.specs.Out.{Out, ok, refuse, required}
 use Rattle.types.proofs.Tests.{true-false, and-true, both}
 use Rattle.types.specs.Order.{is-less}
@@ -70,7 +71,7 @@ all-are-good (n ∷ ns) e f =
 -- ---- the bytes u go on with the names ns, whatever the bytes of these are, after n others of which `last` was the last
 pub record Rest (n : ℕ) (last : Name) (u : List ℕ) (ns : List Name) : Type 0 where
   pub bytes : u ≡ table ns
-  pub few : n + length ns ≤ 256
+  pub few : n + length ns ≤ 4096
   pub sized : all-sized ns ≡ true
   pub rises : rising (last ∷ ns) ≡ true
 
@@ -83,25 +84,26 @@ from-nothing ((b ∷ n) ∷ ns) g e = e
 
 table-rest : {t : List ℕ} {ns : List Name} → IsTable t ns → Rest 0 [] t ns
 table-rest {ns = ns} T =
-    let R = good-rules ns (T .good) in
+    let R = good-rules layout.New ns (T .good) in
     let S = good-sized ns (R .good) in
     record { bytes = T .bytes; few = omega (arith, R .few); sized = S; rises = from-nothing ns S (R .rises) }
 
-rest-table : {t : List ℕ} {ns : List Name} → Rest 0 [] t ns → odd-bytes t ≡ odd-lengths ns → IsTable t ns
-rest-table {ns = ns} R e =
+rest-table : {t : List ℕ} {ns : List Name} → length t ≤ 65536 → Rest 0 [] t ns → odd-bytes t ≡ odd-lengths ns → IsTable t ns
+rest-table {ns = ns} h R e =
     let g = all-are-good ns (R .sized) (ap odd-bytes (sym (R .bytes)) ∙ e) in
-    record { bytes = R .bytes; good = rules-good ns (record { few = omega (arith, R .few); good = g; rises = rising-rest [] ns (R .rises) }) }
+    let s : length (table ns) ≤ 65536 = rw (R .bytes) at h in
+    record { bytes = R .bytes; good = rules-good layout.New ns (record { few = omega (arith, R .few); short = s; good = g; rises = rising-rest [] ns (R .rises) }) }
 
 -- such bytes are the table of no other names
 rest-odd : {t : List ℕ} {ns ms : List Name} → Rest 0 [] t ns → IsTable t ms → odd-bytes t ≡ odd-lengths ns
 rest-odd {ns = ns} {ms} R T =
     let s : ms ≡ ns = sym (split-is T) ∙ ap split (R .bytes) ∙ split-table ns in
-    ap odd-bytes (T .bytes) ∙ good-odd ms (good-rules ms (T .good) .good) ∙ ap odd-lengths s
+    ap odd-bytes (T .bytes) ∙ good-odd ms (good-rules layout.New ms (T .good) .good) ∙ ap odd-lengths s
 
 -- ---- one name more
 pub record Step (n : ℕ) (last : Name) (b : ℕ) (u : List ℕ) : Type 0 where
   pub comes : comes-next last b (take b u) ≡ true
-  pub room : n < 256
+  pub room : n < 4096
   pub after : List Name
   pub rest : Rest (n + 1) (take b u) (drop b u) after
 
@@ -138,32 +140,33 @@ unstep {b = b} {u = u} C R =
 pub record Stage (t : List ℕ) (from at n k : ℕ) : Type 0 where
   pub low : from ≤ at
   pub high : at ≤ length t
-  pub few : n ≤ 256
-  pub small : at ≤ 65 * n
+  pub short : length t ≤ 65536
+  pub few : n ≤ 4096
   pub fewer : k ≤ n
   pub forth : (ns : List Name) → Rest n (part t from at) (drop at t) ns → odd-bytes t ≡ k + odd-lengths ns → table-reply t ≡ ok (n + length ns)
   pub other : (ns : List Name) → Rest n (part t from at) (drop at t) ns → (odd-bytes t ≡ k + odd-lengths ns → ⊥) → table-reply t ≡ refuse 1
   pub back : ((ns : List Name) → Rest n (part t from at) (drop at t) ns → ⊥) → table-reply t ≡ refuse 1
 
+pub stage-long : (t : List ℕ) → 65536 < length t → refuse 1 ≡ table-reply t
+unfolding required
+stage-long t h = sym (reply-of t (no-names-of (λ ns T. omega (arith, ap length (T .bytes), good-rules layout.New ns (T .good) .short))))
+
 module _ {t : List ℕ} where
-  pub stage-start : Stage t 0 0 0 0
+  pub stage-start : length t ≤ 65536 → Stage t 0 0 0 0
   unfolding required
-  stage-start = record {
+  stage-start h = record {
     low = omega arith;
     high = omega arith;
+    short = h;
     few = omega arith;
-    small = omega arith;
     fewer = omega arith;
-    forth = λ ns R e. reply-of t (is-names-of (rest-table R (omega (arith, e)))) ∙ ap {B = Out ℕ} ok (omega arith);
+    forth = λ ns R e. reply-of t (is-names-of (rest-table h R (omega (arith, e)))) ∙ ap {B = Out ℕ} ok (omega arith);
     other = λ ns R f. reply-of t (no-names-of (λ ms T. f (omega (arith, rest-odd R T))));
     back = λ f. reply-of t (no-names-of (λ ns T. f ns (table-rest T)));
   }
 
   module _ {from at n k : ℕ} (S : Stage t from at n k) where
     module _ (h : length t ≤ at) where
-      pub stage-few : length t < 65536
-      stage-few = omega (arith, S .small, S .few)
-
       nothing-left : Rest n (part t from at) (drop at t) []
       unfolding table all-sized rising
       nothing-left = record { bytes = drop-of-length-le t h; few = omega (arith, S .few); sized = refl; rises = refl }
@@ -181,10 +184,10 @@ module _ {t : List ℕ} where
       next : {ns : List Name} → Rest n (part t from at) (drop at t) ns → Step n (part t from at) (getD t at 0) (drop (at + 1) t)
       next {ns} R = step ns (rw (entry {e = name-end t at} h refl .front) at R)
 
-      pub stage-full : 256 ≤ n → refuse 1 ≡ table-reply t
+      pub stage-full : 4096 ≤ n → refuse 1 ≡ table-reply t
       stage-full m = sym (S .back (λ ns R. omega (arith, next R .room)))
 
-      pub stage-fits : n < 256 → {x : ℕ} → x ≡ odd (getD t at 0) → Fits w16 (k + x)
+      pub stage-fits : n < 4096 → {x : ℕ} → x ≡ odd (getD t at 0) → Fits w32 (k + x)
       stage-fits m o = omega (arith, odd-small (getD t at 0), S .fewer, m, o)
 
       module _ {e : ℕ} (p : e ≡ name-end t at) {r : Bool} (q : r ≡ comes-next (part t from at) (getD t at 0) (part t (at + 1) e)) where
@@ -205,18 +208,14 @@ module _ {t : List ℕ} where
           unfolding odd-lengths
           length-odd ns = ap (λ (b : ℕ). odd b + odd-lengths ns) (sym (comes .whole))
 
-          ends : e ≤ at + 65
-          unfolding name-end
-          ends = omega (arith, p, comes .whole, comes .short)
-
-          pub stage-more : n < 256 → {x : ℕ} → x ≡ odd (getD t at 0) → Stage t (at + 1) e (n + 1) (k + x)
+          pub stage-more : n < 4096 → {x : ℕ} → x ≡ odd (getD t at 0) → Stage t (at + 1) e (n + 1) (k + x)
           stage-more m o =
               let E = entry h p in
               record {
                 low = E .low;
                 high = E .high;
+                short = S .short;
                 few = omega arith;
-                small = omega (arith, S .small, ends);
                 fewer = omega (arith, odd-small (getD t at 0), S .fewer, o);
                 forth = λ ns R g. S .forth _ (before R) (omega (arith, g, o, length-odd ns)) ∙ ap {B = Out ℕ} ok (omega arith);
                 other = λ ns R f. S .other _ (before R) (λ g. f (omega (arith, g, o, length-odd ns)));

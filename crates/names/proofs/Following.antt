@@ -103,7 +103,7 @@ module _ (last n : Name) (b : ℕ) {r : Bool} (e : r ≡ comes-next last b n) wh
     comes : Comes last b n
     comes = comes-is last b n (sym e ∙ not-false r f)
 
-    pub follows-few : length n < 65536
+    pub follows-few : length n ≤ 65536
     follows-few = omega (arith, comes .short)
 
     pub follows-told : {k : ℕ} → k ≡ odd-bytes n → eqb k 0 ≡ may-follow last b n

@@ -6,5 +6,6 @@ pub mod Numbers
 pub mod OddBytes
 pub mod Following
 pub mod Walking
+pub mod Places
 pub mod Checking
 pub mod Stretches

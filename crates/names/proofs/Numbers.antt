@@ -7,6 +7,7 @@ use mathlib.Core.Option.{some}
 use native.Mathlib.Omega.{arith}
 use native.Mathlib.Nat.{le-of-suc-le-suc}
 use lib.ListN.{length, getD, List·getD-eq-default}
+use Rattle.words.specs.declared.Layout.the-variants as layout
 use Rattle.types.specs.Order.{TotalOrder, is-less, reversed}
 use Rattle.types.specs.declared.Ordering.{Ordering}
 use Rattle.types.specs.declared.Ordering.the-variants.{Less, Equal, Greater}
@@ -54,10 +55,10 @@ rising-at (n ∷ ns) e (suc i) (suc j) l h = rising-at ns (rising-rest n ns e) i
 
 -- ---- theorems
 module _ (t : List ℕ) (ns : List Name) (e : names-of t ≡ some ns) where
-  rules : Rules ns
-  rules = good-rules ns (names-of-is t ns e .good)
+  rules : Rules layout.New ns
+  rules = good-rules layout.New ns (names-of-is t ns e .good)
 
-  pub names-few : length ns ≤ 256
+  pub names-few : length ns ≤ 4096
   names-few = rules .few
 
   pub names-good : (k : ℕ) → k < length ns → GoodName (getD ns k [])

@@ -5,7 +5,7 @@ use mathlib.Core.Bool.{Bool, true, false, _||_, _&&_}
 use mathlib.Core.List.{List, [], _∷_, _++_}
 use native.Mathlib.Omega.{arith}
 use native.Mathlib.Numerals.{add-one}
-use mir.Syntax.{w16}
+use mir.Syntax.{w32}
 use mir.Val.{Fits, boolByte}
 use lib.ListN.{length, getD, drop, drop-of-length-le}
 use lib.Seq.{drop-cons}
@@ -79,7 +79,7 @@ module _ {bs : List ℕ} where
 
   module _ {n i : ℕ} (C : Counted bs n i) where
     module _ (h : i < length bs) {x : ℕ} (e : x ≡ odd (getD bs i 0)) where
-      pub count-fits : length bs < 65536 → Fits w16 (n + x)
+      pub count-fits : length bs ≤ 65536 → Fits w32 (n + x)
       count-fits l = omega (arith, odd-small (getD bs i 0), C .low, h, e)
 
       pub count-more : Counted bs (n + x) (i + 1)

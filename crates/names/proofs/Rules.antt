@@ -8,23 +8,27 @@ use lib.Dec.{leb}
 use borrow.Author.Tests.{leb-true, le-leb}
 use Rattle.types.proofs.Tests.{and-true, both}
 use Rattle.types.specs.Order.{is-less}
-use Rattle.names.specs.Table.{Name, name-order, rising, all-printable, good-name, all-good, good-names}
+use Rattle.words.specs.declared.Layout.{Layout}
+use Rattle.names.specs.Table.{Name, table, name-order, rising, all-printable, good-name, all-good, most-names, good-names-in}
 
-pub record Rules (ns : List Name) : Type 0 where
-  pub few : length ns ≤ 256
+pub record Rules (l : Layout) (ns : List Name) : Type 0 where
+  pub few : length ns ≤ most-names l
+  pub short : length (table ns) ≤ 65536
   pub good : all-good ns ≡ true
   pub rises : rising ns ≡ true
 
-pub good-rules : (ns : List Name) → good-names ns ≡ true → Rules ns
-unfolding good-names
-good-rules ns e =
-    let p = and-true (leb (length ns) 256) (all-good ns && rising ns) e in
-    let q = and-true (all-good ns) (rising ns) (p .1) in
-    record { few = leb-true _ _ (p .0); good = q .0; rises = q .1 }
+module _ (l : Layout) (ns : List Name) where
+  pub good-rules : good-names-in l ns ≡ true → Rules l ns
+  unfolding good-names-in
+  good-rules e =
+      let p = and-true (leb (length ns) (most-names l)) (leb (length (table ns)) 65536 && (all-good ns && rising ns)) e in
+      let q = and-true (leb (length (table ns)) 65536) (all-good ns && rising ns) (p .1) in
+      let r = and-true (all-good ns) (rising ns) (q .1) in
+      record { few = leb-true _ _ (p .0); short = leb-true _ _ (q .0); good = r .0; rises = r .1 }
 
-pub rules-good : (ns : List Name) → Rules ns → good-names ns ≡ true
-unfolding good-names
-rules-good ns R = both (le-leb _ _ (R .few)) (both (R .good) (R .rises))
+  pub rules-good : Rules l ns → good-names-in l ns ≡ true
+  unfolding good-names-in
+  rules-good R = both (le-leb _ _ (R .few)) (both (le-leb _ _ (R .short)) (both (R .good) (R .rises)))
 
 pub record GoodName (n : Name) : Type 0 where
   pub some-byte : 1 ≤ length n

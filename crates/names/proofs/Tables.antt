@@ -9,7 +9,7 @@ use lib.ListN.{length, getD, take, drop, length-drop}
 use lib.Seq.{take-at, drop-at}
 use Rattle.types.specs.Same.{same-numbers}
 use Rattle.types.proofs.Tests.{and-true, both, not-true, numbers-true, numbers-if}
-use Rattle.names.specs.Table.{Name, table, good-names, IsTable, split-first, split, names-of, name-text}
+use Rattle.names.specs.Table.{Name, table, good-names-in, good-names, IsTable, split-first, split, names-of, name-text}
 use Rattle.names.specs.Theorems.{IsNamesOf, NamesOfIs, UniqueNames}
 
 -- ---- the names of any bytes
@@ -83,5 +83,5 @@ unfolding name-text
 name-text-is t ns k e = ap (λ (l : List Name). getD l k []) (split-is (names-of-is t ns e))
 
 pub empty-table : names-of [] ≡ some []
-unfolding table good-names
+unfolding table good-names-in
 empty-table = is-names-of (record { bytes = refl; good = refl })

@@ -9,7 +9,6 @@ use lib.ListN.{length, getD, take, drop, length-append, length-drop, drop-of-len
 use lib.Seq.{drop-cons, drop-drop, drop-nil, getD-drop, length-take-le}
 use Rattle.names.specs.Table.{Name, table, split, name-text}
 use Rattle.names.specs.Inner.{name-end, Lies}
-use Rattle.names.specs.declared.Stretch.{Stretch}
 use Rattle.names.proofs.Tables.{split-cons, split-nil}
 
 -- the bytes that `&t[a..e]` lends
@@ -51,13 +50,19 @@ module _ {t : List ℕ} {at e : ℕ} where
         rest = ap (λ (i : ℕ). drop i t) j ∙ sym (drop-drop (min b (length l)) (at + 1) t) ∙ drop-min b l;
       }
 
+-- it is the first of the names from its length byte on
+pub split-entry : (t : List ℕ) (at : ℕ) {e : ℕ} → at < length t → e ≡ name-end t at → split (drop at t) ≡ part t (at + 1) e ∷ split (drop e t)
+split-entry t at h p =
+    let E = entry h p in
+    ap split (E .front) ∙ split-cons (getD t at 0) (drop (at + 1) t) ∙ sym (λ i. E .text i ∷ split (E .rest i))
+
 -- the names from number k on are those from `left` on of what lies from `at` on, behind the bytes before
 pub record Walk (t : List ℕ) (k at left : ℕ) : Type 0 where
   pub high : at ≤ length t
   pub after : drop k (split t) ≡ drop left (split (drop at t))
   pub before : length (table (take k (split t))) ≡ at + length (table (take left (split (drop at t))))
 
-first-after : (k : ℕ) (ns : List Name) {ms : List Name} → drop k ns ≡ ms → getD ns k [] ≡ getD ms 0 []
+pub first-after : (k : ℕ) (ns : List Name) {ms : List Name} → drop k ns ≡ ms → getD ns k [] ≡ getD ms 0 []
 first-after k ns e = ap (λ (j : ℕ). getD ns j []) (omega arith) ∙ sym (getD-drop k ns 0 []) ∙ ap (λ (l : List Name). getD l 0 []) e
 
 module _ {t : List ℕ} {k : ℕ} where
@@ -66,11 +71,6 @@ module _ {t : List ℕ} {k : ℕ} where
 
   module _ {at left e : ℕ} (W : Walk t k at left) where
     module _ (h : at < length t) (p : e ≡ name-end t at) where
-      cons : split (drop at t) ≡ part t (at + 1) e ∷ split (drop e t)
-      cons =
-          let E = entry h p in
-          ap split (E .front) ∙ split-cons (getD t at 0) (drop (at + 1) t) ∙ sym (λ i. E .text i ∷ split (E .rest i))
-
       part-length : length (part t (at + 1) e) ≡ e - (at + 1)
       part-length = let E = entry h p in length-take-le (e - (at + 1)) (drop (at + 1) t) (simp length-drop (omega (arith, E .low, E .high)))
 
@@ -82,7 +82,7 @@ module _ {t : List ℕ} {k : ℕ} where
           let b : length (table (take k (split t))) ≡ at + 0 = W .before ∙ ap (λ (j : ℕ). at + length (table (take j (split (drop at t))))) z in
           record {
             within = omega (arith, E .low, E .high);
-            text = sym (first-after k (split t) (a ∙ cons));
+            text = sym (first-after k (split t) (a ∙ split-entry t at h p));
             behind = λ l. omega arith;
           }
 
@@ -93,10 +93,11 @@ module _ {t : List ℕ} {k : ℕ} where
           let j : left ≡ suc (left - 1) = omega arith in
           let n = part t (at + 1) e in
           let ns = split (drop e t) in
-          let b : length (table (take k (split t))) ≡ at + length (table (n ∷ take (left - 1) ns)) = W .before ∙ (λ i. at + length (table (take (j i) (cons i)))) in
+          let s = split-entry t at h p in
+          let b : length (table (take k (split t))) ≡ at + length (table (n ∷ take (left - 1) ns)) = W .before ∙ (λ i. at + length (table (take (j i) (s i)))) in
           record {
             high = E .high;
-            after = W .after ∙ (λ i. drop (j i) (cons i));
+            after = W .after ∙ (λ i. drop (j i) (s i));
             before = omega (arith, b, length-append n (table (take (left - 1) ns)), part-length, E .low);
           }
 
@@ -109,7 +110,3 @@ module _ {t : List ℕ} {k : ℕ} where
         text = sym (first-after k (split t) a);
         behind = λ l. absurd (omega (arith, length-drop k (split t), ap length a));
       }
-
--- the bytes of `&t[start..end]`, where the stretch ends with `end`
-pub lies-text : {t : List ℕ} {k : ℕ} {q : Stretch} → Lies t k q → take (q .start + q .length - q .start) (drop (q .start) t) ≡ name-text t k
-lies-text {t} {q = q} L = let n : q .start + q .length - q .start ≡ q .length = omega arith in ap (λ (i : ℕ). take i (drop (q .start) t)) n ∙ L .text

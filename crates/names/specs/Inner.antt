@@ -1,5 +1,5 @@
 -- What a step of a walk through a table answers, and how its bytes are judged.
-use Prim.Native.Nat.{ℕ, _+_, _<_, _≤_, min}
+use Prim.Native.Nat.{ℕ, zero, suc, _+_, _<_, _≤_, min}
 use mathlib.Core.Path.{_≡_}
 use mathlib.Core.Bool.{Bool, _||_, _&&_}
 use mathlib.Core.List.{List, [], _∷_}
@@ -28,6 +28,30 @@ comes-next last b n = eqb b (length n) && (leb 1 (length n) && (leb (length n) 6
 -- where the name ends whose length byte stands at this place, at the latest with the bytes
 unfoldable pub name-end : List ℕ → ℕ → ℕ
 name-end t at = min (at + 1 + getD t at 0) (length t)
+
+-- few enough names and bytes that each name has an entry in a list of 4,096 places, and each place fits
+pub record Listable (t : List ℕ) : Type 0 where
+  pub few-names : length (split t) ≤ 4096
+  pub few-bytes : length t ≤ 65536
+
+-- where the length byte of name k stands, if each name ends where the next begins; past the last name the end of the bytes
+unfoldable pub name-place : List ℕ → ℕ → ℕ
+unfolding name-end
+name-place t zero = 0
+name-place t (suc k) = name-end t (name-place t k)
+
+-- such bytes, and a list of places without an entry
+pub record Unplaced (t ps : List ℕ) : Type 0 where
+  pub listable : Listable t
+  pub long : length ps ≡ 4096
+  pub none : (k : ℕ) → getD ps k 0 ≡ 0
+
+-- the text of each name starts at the place in the list, behind its length byte; past the last name stands 0
+pub record Places (t ps : List ℕ) : Type 0 where
+  pub listable : Listable t
+  pub long : length ps ≡ 4096
+  pub there : (k : ℕ) → k < length (split t) → getD ps k 0 ≡ suc (name-place t k)
+  pub none : (k : ℕ) → length (split t) ≤ k → getD ps k 0 ≡ 0
 
 -- the text of name k of any bytes lies there, behind the names before it and its own length byte where there is such a name
 pub record Lies (t : List ℕ) (k : ℕ) (q : Stretch) : Type 0 where

@@ -6,6 +6,8 @@ use mathlib.Core.List.{List, [], _∷_, _++_}
 use mathlib.Core.Option.{Option, none, some}
 use lib.ListN.{length, getD, take, drop}
 use lib.Dec.{leb, eqb}
+use Rattle.words.specs.declared.Layout.{Layout}
+use Rattle.words.specs.declared.Layout.the-variants as layout
 use Rattle.types.specs.Same.{same-numbers}
 use Rattle.types.specs.Order.{order, lexicographic, is-less}
 use Rattle.types.specs.declared.Ordering.{Ordering}
@@ -47,10 +49,20 @@ unfolding good-name
 all-good [] = true
 all-good (n ∷ ns) = good-name n && all-good ns
 
--- the rules of a table over its names: at most 256, each good, strictly rising
-unfoldable pub good-names : List Name → Bool
-unfolding all-good rising
-good-names ns = leb (length ns) 256 && (all-good ns && rising ns)
+-- the most names that a table may have (01, "Words of the arena"; 02, A2)
+abbrev pub most-names : Layout → ℕ
+most-names layout.Old = 256
+most-names layout.New = 4096
+
+-- the rules of a table over its names: at most so many, in at most 65,536 bytes (02, A2), each good, strictly rising. The old rules have no
+-- limit of bytes, since 256 names can't have so many
+unfoldable pub good-names-in : Layout → List Name → Bool
+unfolding table all-good rising
+good-names-in l ns = leb (length ns) (most-names l) && (leb (length (table ns)) 65536 && (all-good ns && rising ns))
+
+-- the rules of today's
+abbrev pub good-names : List Name → Bool
+good-names = good-names-in layout.New
 
 -- the bytes are those of a table with these names
 pub record IsTable (t : List ℕ) (ns : List Name) : Type 0 where
@@ -70,7 +82,7 @@ split t = split-first (length t) t
 
 -- the names of a table, or none where the bytes break a rule: what `split` guesses must have these bytes and keep the rules
 unfoldable pub names-of : List ℕ → Option (List Name)
-unfolding table split good-names same-numbers
+unfolding table split good-names-in same-numbers
 names-of t = elim (same-numbers t (table (split t)) && good-names (split t)) [ true ↦ some (split t) | false ↦ none ]
 
 -- the text of name k of any bytes, empty past the last

@@ -1,14 +1,15 @@
-// The name table that is lent with an arena. `compare` orders two names, `check_names` judges a table, and `name_at` and
-// `name_stretch` give back the text of a name. specs/Table.antt says what a table is, specs/Reply.antt what its check and
-// `name_stretch` answer, and specs/Theorems.antt that the answer is the name's text; proofs/Tables.antt, proofs/Numbers.antt and
-// proofs/Replies.antt have what a caller may know of a table, of the numbers of its names and of the check's answer.
+// The name table that is lent with an arena. `compare` orders two names, `check_names` judges a table, and `name_stretch` and,
+// by places that `find_places` finds once a call, `name_at` give back the text of a name. specs/Table.antt says what a table is,
+// specs/Reply.antt what its check and `name_stretch` answer, and specs/Theorems.antt that the answer is the name's text;
+// proofs/Tables.antt, proofs/Numbers.antt, proofs/Places.antt and proofs/Replies.antt have what a caller may know of a table, of
+// the numbers and the places of its names and of the check's answer.
 use types::Ordering;
-ghost use Prim.Native.Nat.{_<_, min};
+ghost use Prim.Native.Nat.{_≤_, min};
 ghost use mathlib.Core.Path.{_≡_};
 ghost use lib.ListN.{length};
 ghost use Rattle.names.specs.Table.{name-order, name-text, may-follow};
 ghost use Rattle.names.specs.Reply.{table-reply, table-out, name-reply, placed-out};
-ghost use Rattle.names.specs.Inner.{odd, odd-bytes, comes-next, name-end, Lies};
+ghost use Rattle.names.specs.Inner.{odd, odd-bytes, comes-next, name-end, Lies, Unplaced, Places};
 
 // The lesser of two counts.
 fn lesser(m: usize, n: usize) -> usize
@@ -52,15 +53,15 @@ pub fn wide(x: u8) -> usize
 }
 
 // 1 for a byte that can't stand in a name, else 0.
-fn odd(byte: u8) -> u16
+fn odd(byte: u8) -> u32
     ensures { λ r. ⌜ r ≡ odd byte ⌝ }
 {
-    ((byte < 32) | (byte > 126)) as u16
+    ((byte < 32) | (byte > 126)) as u32
 }
 
 // How many of the bytes can't stand in a name. No byte ends the loop early, so that it takes many in a turn.
-fn count_odd(bytes: &[u8]) -> u16
-    requires { ⌜ length (now bytes) < 65536 ⌝ }
+fn count_odd(bytes: &[u8]) -> u32
+    requires { ⌜ length (now bytes) ≤ 65536 ⌝ }
     ensures { λ r. ⌜ r ≡ odd-bytes (now (bytes .entry)) ⌝ }
 {
     let mut count = 0;
@@ -130,12 +131,15 @@ pub enum Table {
 pub fn check_names(table: &[u8]) -> Table
     ensures { λ r. ⌜ table-out r ≡ table-reply (now (table .entry)) ⌝ }
 {
+    if table.len() > 65536 {
+        return Table::Refused(1);
+    }
     let mut from = 0;
     let mut at = 0;
     let mut count: usize = 0;
     let mut lengths = 0;
     while at < table.len() {
-        if count >= 256 {
+        if count >= 4096 {
             return Table::Refused(1);
         }
         let start = at + 1;
@@ -182,13 +186,34 @@ fn stretch_at(table: &[u8], k: usize) -> Stretch
     }
 }
 
-// The text of name k, as a stretch of the table; empty where the table has no such name.
-pub fn name_at<'a>(table: &'a [u8], k: usize) -> &'a [u8]
+// Where the text of each name starts, found by one walk through the table; 0 past the last name.
+pub fn find_places(table: &[u8], places: &mut [u32; 4096])
+    requires { ⌜ Unplaced (now table) (now places) ⌝ }
+    ensures { λ u. ⌜ Places (now (table .entry)) (now (places .exit)) ⌝ }
+{
+    let mut at = 0;
+    let mut k = 0;
+    while at < table.len() {
+        let start = at + 1;
+        places[k] = start as u32;
+        at = end_of(table, at);
+        k += 1;
+    }
+}
+
+// The text of name k, as a stretch of the table, by the places of its names; empty where the table has no such name.
+pub fn name_at<'a>(table: &'a [u8], places: &[u32; 4096], k: usize) -> &'a [u8]
+    requires { ⌜ Places (now table) (now places) ⌝ }
     ensures { λ r. ⌜ now r ≡ name-text (now (table .entry)) k ⌝ }
 {
-    let text = stretch_at(table, k);
-    let start = text.start;
-    let end = start + text.length;
+    if k >= 4096 {
+        return &table[..0];
+    }
+    let start = types::arc_ty::wide(places[k]);
+    if start == 0 {
+        return &table[..0];
+    }
+    let end = end_of(table, start - 1);
     &table[start..end]
 }
 

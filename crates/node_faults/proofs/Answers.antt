@@ -10,37 +10,38 @@ use lib.Seq.{take-all}
 use borrow.Author.Tests.{eq-eqb, ne-eqb, not-true, not-false}
 use mir.Syntax.{w32}
 use mir.Val.{Fits}
+use Rattle.words.specs.declared.Layout.the-variants as layout
 use Rattle.words.specs.Words.{head-kind, head-dynamic, head-count}
 use Rattle.types.specs.Kind.{Kind, kind-of}
 use Rattle.types.specs.Out.{number}
 use Rattle.types.specs.Node.{below, rising, decode}
-use Rattle.types.specs.Fault.{head-fits, kind-body-fits, fits, kind-children, kind-names, children-in, names-in, first, fault}
+use Rattle.types.specs.Fault.{head-fits, kind-body-fits-in, fits, fits-in, kind-children, kind-names-in, children-in, words-names, words-names-in, first, fault, fault-in}
 use Rattle.types.proofs.Lists.{below-by}
 use Rattle.types.proofs.Faults.{fault-decode}
 use Rattle.node_faults.specs.Inner.{body-fault, kind-fault, Clean}
 
-fault-first : (table nodes : ℕ) (ws : List ℕ) → fault table nodes ws ≡ first (fits ws) (below nodes (children-in ws) && below table (names-in ws)) (rising (names-in ws))
-unfolding fault
+fault-first : (table nodes : ℕ) (ws : List ℕ) → fault table nodes ws ≡ first (fits ws) (below nodes (children-in ws) && below table (words-names ws)) (rising (words-names ws))
+unfolding fault-in
 fault-first table nodes ws = refl
 
 -- under a head that fits and counts the words after it, their fault is the node's
 pub fault-kind : (table nodes h : ℕ) (b : List ℕ) → head-fits h ≡ true → length b ≡ head-count h → fault table nodes (h ∷ b) ≡ kind-fault table nodes (kind-of (head-kind h)) (head-dynamic h) b
-unfolding fits children-in names-in kind-fault body-fault
+unfolding fits-in children-in words-names-in kind-fault body-fault
 fault-kind table nodes h b e l = fault-first table nodes (h ∷ b) ∙ rw (e, eq-eqb (length b) (head-count h) l) (go (kind-of (head-kind h)))
   where
-    go : (x : Option Kind) → first (kind-body-fits x (head-dynamic h) b) (below nodes (kind-children x b) && below table (kind-names x (head-dynamic h) b)) (rising (kind-names x (head-dynamic h) b)) ≡ kind-fault table nodes x (head-dynamic h) b
+    go : (x : Option Kind) → first (kind-body-fits-in layout.New x (head-dynamic h) b) (below nodes (kind-children x b) && below table (kind-names-in layout.New x (head-dynamic h) b)) (rising (kind-names-in layout.New x (head-dynamic h) b)) ≡ kind-fault table nodes x (head-dynamic h) b
     go none = refl
     go (some j) = refl
 
 -- ---- a head and the words after it
 module _ (table nodes h : ℕ) (b : List ℕ) {f : Bool} (p : f ≡ head-fits h) where
   pub node-head : not f ≡ true → 3 ≡ fault table nodes (h ∷ b)
-  unfolding fits
+  unfolding fits-in
   node-head g = sym (fault-first table nodes (h ∷ b) ∙ rw (sym p ∙ not-true f g))
 
   module _ (g : not f ≡ false) {n : ℕ} (q : n ≡ head-count h) where
     pub node-count : (length b ≡ n → ⊥) → 3 ≡ fault table nodes (h ∷ b)
-    unfolding fits
+    unfolding fits-in
     node-count c = sym (fault-first table nodes (h ∷ b) ∙ rw (sym p ∙ not-false f g, ne-eqb (length b) (head-count h) (λ e. c (e ∙ sym q))))
 
     pub node-body : length b ≡ n → {k : ℕ} → k ≡ head-kind h → {d : Bool} → d ≡ head-dynamic h → {r : ℕ} → r ≡ kind-fault table nodes (kind-of k) d b → r ≡ fault table nodes (h ∷ b)
@@ -52,7 +53,7 @@ words-split [] f = absurd (f refl)
 words-split (h ∷ b) f = refl
 
 unfit-empty : (ws : List ℕ) → length ws ≡ 0 → fits ws ≡ false
-unfolding fits
+unfolding fits-in
 unfit-empty [] e = refl
 unfit-empty (h ∷ b) e = absurd (omega arith)
 

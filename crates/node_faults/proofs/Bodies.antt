@@ -11,7 +11,7 @@ use borrow.Author.Tests.{lt-ltb, le-ltb}
 use Rattle.words.specs.Words.{bit, child, child-zero, field-name, field-zero, field-optional}
 use Rattle.types.specs.Kind.{code, children, fields, name}
 use Rattle.types.specs.Node.{below, rising, children-of}
-use Rattle.types.specs.Fault.{each-zero, body-fits, first}
+use Rattle.types.specs.Fault.{each-zero, body-fits-in, first}
 use Rattle.node_faults.specs.Inner.{body-fault}
 
 pub no-word : (b : List ℕ) → length b ≡ 0 → 0 ≡ getD b 0 0
@@ -40,20 +40,20 @@ parted table nodes b own fs cs =
 
 module _ (table nodes : ℕ) (d : Bool) (b : List ℕ) where
   pub code-good : {x : ℕ} → x ≡ getD b 0 0 → x < 8 → 0 ≡ body-fault table nodes code d b
-  unfolding body-fault body-fits each-zero below rising children-of
+  unfolding body-fault body-fits-in each-zero below rising children-of
   code-good {x} e l = let p : ltb (getD b 0 0) 8 ≡ true = ap (λ (v : ℕ). ltb v 8) (sym e) ∙ lt-ltb x 8 l in rw p
 
   pub code-high : {x : ℕ} → x ≡ getD b 0 0 → 8 ≤ x → 3 ≡ body-fault table nodes code d b
-  unfolding body-fault body-fits each-zero below rising children-of
+  unfolding body-fault body-fits-in each-zero below rising children-of
   code-high {x} e l = let p : ltb (getD b 0 0) 8 ≡ false = ap (λ (v : ℕ). ltb v 8) (sym e) ∙ le-ltb x 8 l in rw p
 
   pub children-all : {r : ℕ} {z l : Bool} → r ≡ first z l true → z ≡ each-zero child-zero b → l ≡ below nodes (map child b) → r ≡ body-fault table nodes children d b
-  unfolding body-fault body-fits each-zero below rising children-of
+  unfolding body-fault body-fits-in each-zero below rising children-of
   children-all e p q = e ∙ (λ i. first (p i) ((q ∙ and-true-is _) i) true)
 
   -- the parts as the code lends them: `&body[..k]` and `&body[k..]`
   pub fields-all : {k : ℕ} {r : ℕ} {z y l n u : Bool} → r ≡ first (z && y) (l && n) u → k ≡ length b - bit d → z ≡ each-zero field-zero (take k b) → y ≡ each-zero child-zero (take (length b - k) (drop k b)) → l ≡ below nodes (map child b) → n ≡ below table (map field-name (take k b)) → u ≡ rising (map field-name (take k b)) → r ≡ body-fault table nodes fields d b
-  unfolding body-fault body-fits children-of
+  unfolding body-fault body-fits-in children-of
   fields-all {k} e m p q s t u =
       let rest = take-all (length b - k) (drop k b) (omega (arith, length-drop k b)) in
       e ∙ (λ i. first (p i && (q ∙ ap (each-zero child-zero) rest) i) (s i && t i) (u i)) ∙ (λ i. parted table nodes b true (take (m i) b) (drop (m i) b))
@@ -61,7 +61,7 @@ module _ (table nodes : ℕ) (d : Bool) (b : List ℕ) where
 -- ---- a name: the one field of a set, and not optional
 module _ (table nodes : ℕ) (b : List ℕ) {x : ℕ} (e : x ≡ getD b 0 0) {o : Bool} (p : o ≡ field-optional x) where
   name-as : {v : Bool} → o ≡ v → parted table nodes b (not v) b [] ≡ body-fault table nodes name false b
-  unfolding body-fault body-fits each-zero children-of
+  unfolding body-fault body-fits-in each-zero children-of
   name-as q = λ i. parted table nodes b (not ((sym q ∙ p ∙ ap field-optional e) i)) b []
 
   pub name-optional : o ≡ true → 3 ≡ body-fault table nodes name false b
@@ -72,7 +72,7 @@ module _ (table nodes : ℕ) (b : List ℕ) {x : ℕ} (e : x ≡ getD b 0 0) {o 
   name-good q z l n u = sym (λ i. first (z i && true) (l i && n i) (u i)) ∙ name-as q
 
   pub name-field : o ≡ false → {r : ℕ} → r ≡ body-fault table nodes fields false b → r ≡ body-fault table nodes name false b
-  unfolding body-fault body-fits children-of
+  unfolding body-fault body-fits-in children-of
   name-field q s =
       let t : take (length b - 0) b ≡ b = take-all (length b - 0) b (omega arith) in
       let u : drop (length b - 0) b ≡ [] = drop-of-length-le b {i = length b - 0} (omega arith) in

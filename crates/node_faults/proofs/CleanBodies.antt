@@ -11,7 +11,7 @@ use borrow.Author.Tests.{eqb-true, eq-eqb, leb-true, not-true, not-false}
 use Rattle.words.specs.Words.{bit, child, field-optional, head-kind, head-open, head-dynamic, head-zero, head-count}
 use Rattle.types.specs.Kind.{kind-of, body-count, code, children}
 use Rattle.types.specs.Node.{below}
-use Rattle.types.specs.Fault.{body-fits, each-zero, head-fits, fault}
+use Rattle.types.specs.Fault.{body-fits-in, each-zero, head-fits, fault}
 use Rattle.types.proofs.Tests.{and-true, both}
 use Rattle.node_faults.specs.Inner.{within, count-fits, body-fault, kind-fault, CleanChildren, CleanFields, Clean, CleanBody}
 use Rattle.node_faults.proofs.Passing.{Test, all-meet, all-join, is-below}
@@ -56,7 +56,7 @@ module _ (table nodes : ℕ) (b : List ℕ) where
   clean-at e {r} C = subst (λ (i : ℕ). CleanBody table nodes i false b r) (sym e) C
 
   pub code-clean : {f : ℕ} → f ≡ body-fault 0 0 code false b → CleanBody table nodes 2 false b (eqb (length b) 1 && eqb f 0)
-  unfolding kind-of kind-fault count-fits body-count body-fault body-fits below
+  unfolding kind-of kind-fault count-fits body-count body-fault body-fits-in below
   code-clean {f} e = record {
     fitting = λ t. and-true (eqb (length b) 1) (eqb f 0) t .0;
     faultless = λ t. sym e ∙ eqb-true f 0 (and-true (eqb (length b) 1) (eqb f 0) t .1);

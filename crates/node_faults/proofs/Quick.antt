@@ -10,6 +10,7 @@ use lib.Dec.{leb}
 use borrow.Author.Tests.{leb-true}
 use mir.Syntax.{w32, w64}
 use mir.Val.{Fits}
+use Rattle.words.specs.declared.Layout.the-variants as layout
 use Rattle.words.specs.Words.{child, child-zero, field-name, field-zero}
 use Rattle.words.proofs.Words.{child-zero-made, child-of-fields, field-bounded}
 use Rattle.types.specs.Node.{below, rising}
@@ -81,7 +82,7 @@ module _ {f : ℕ → ℕ} {ws : List ℕ} where
 
 -- ---- field words
 pub name-room : (w : ℕ) {x : ℕ} → x ≡ field-name w → Fits w64 (x + 1)
-name-room w e = record { fits = omega (arith, field-bounded w .few-names) }
+name-room w e = record { fits = omega (arith, field-bounded layout.New w .few-names) }
 
 -- the zero field above the child is a word
 pub zero-room : {z : ℕ} (w : ℕ) → z ≡ field-zero w → Fits w32 (z * 4096)

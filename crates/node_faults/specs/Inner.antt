@@ -9,7 +9,7 @@ use lib.Dec.{leb}
 use Rattle.words.specs.Words.{child, child-zero, field-name, field-zero}
 use Rattle.types.specs.Kind.{Kind, kind-of, body-count, Body, body-of}
 use Rattle.types.specs.Node.{below, rising, children-of}
-use Rattle.types.specs.Fault.{field-part, each-zero, body-fits, first}
+use Rattle.types.specs.Fault.{field-part, each-zero, body-fits, body-fits-in, first}
 
 -- is n one of low to high?
 abbrev pub within : ℕ → ℕ → ℕ → Bool
@@ -23,7 +23,7 @@ count-fits (some k) d n = body-count k d n
 
 -- the fault of a body under a head that fits and counts its words
 unfoldable pub body-fault : ℕ → ℕ → Body → Bool → List ℕ → ℕ
-unfolding body-fits below rising children-of field-name
+unfolding body-fits-in below rising children-of field-name
 body-fault table nodes s d b =
     first (body-fits s d b)
     (below nodes (children-of s b) && below table (map field-name (field-part s d b)))

@@ -11,7 +11,7 @@ use borrow.Author.Tests.{eq-eqb, ne-eqb, eqb-true, ltb-true}
 use Rattle.words.specs.Words.{bit}
 use Rattle.types.specs.Kind as kinds
 use Rattle.types.specs.Kind.{Kind, disc, kind-of, body-count}
-use Rattle.types.specs.Node.{positive, negative, Field, field, primitive, list, lambda, attrset, named, Tag, members, bound, var, neg, form, Node, node, tag, kind, field-names, names, child-words, formed, linked, rising, well}
+use Rattle.types.specs.Node.{positive, negative, Field, field, primitive, list, lambda, attrset, named, Tag, members, bound, var, neg, form, Node, node, tag, kind, field-names, names, child-words-in, formed, linked, rising, well-in}
 use Rattle.types.specs.Order.{order, lexicographic, TotalOrder}
 use Rattle.types.specs.declared.Ordering.the-variants.{Equal}
 use Rattle.types.proofs.Tests.{and-true}
@@ -130,7 +130,7 @@ bit-back true = refl
 bit-back false = refl
 
 made-back : (t : Tag) (cs : List ℕ) → Formed t cs → rising (names t) ≡ true → made (kind t) (node-keys (node t cs)) ≡ node t cs
-unfolding made node-keys body-count child-words
+unfolding made node-keys body-count child-words-in
 made-back (members positive) cs F r = refl
 made-back (members negative) cs F r = refl
 made-back (bound positive) cs F r = ap (node (bound positive)) (sym (nil cs (eqb-true (length cs) 0 (F .counted))))
@@ -161,7 +161,7 @@ keys-apart (node t cs) (node u ds) X Y e =
 
 -- ---- the theorems
 pub well-settled : WellSettled
-unfolding well
+unfolding well-in
 well-settled table nodes x e =
     let p = and-true (formed x) (linked table nodes x && rising (names (tag x))) e in
     record { formed = p .0; rising = and-true (linked table nodes x) (rising (names (tag x))) (p .1) .1 }

@@ -9,7 +9,7 @@ use lib.Dec.{eqb}
 use borrow.Author.Tests.{eqb-true}
 use Rattle.words.specs.Words.{head-kind, child}
 use Rattle.types.specs.Kind.{disc, body-count}
-use Rattle.types.specs.Node.{positive, negative, Tag, members, bound, var, neg, form, primitive, list, lambda, attrset, named, field, Node, node, tag, kind, children, head-of, encode, formed}
+use Rattle.types.specs.Node.{positive, negative, Tag, members, bound, var, neg, form, primitive, list, lambda, attrset, named, field, Node, node, tag, kind, children, head-of, encode, encode-in, formed}
 use Rattle.types.specs.Arena.{Arena, at}
 use Rattle.types.specs.Fault.{children-in}
 use Rattle.types.specs.Memory.{Holds}
@@ -29,7 +29,7 @@ no-head [] e = refl
 no-head (h ∷ b) e = absurd (omega arith)
 
 head-encode : (x : Node) → getD (encode x) 0 0 ≡ head-of x
-unfolding encode
+unfolding encode-in
 head-encode x = refl
 
 -- the kind in a formed node's words is the node's

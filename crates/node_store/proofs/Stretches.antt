@@ -10,7 +10,7 @@ use lib.ListN.{length, getD, take, drop}
 use lib.Seq.{getD-drop, take-at}
 use Rattle.words.specs.Words.{head-count}
 use Rattle.types.specs.Same.{same, same-numbers}
-use Rattle.types.specs.Node.{Node, node-dec, encode, formed}
+use Rattle.types.specs.Node.{Node, node-dec, encode, encode-in, formed}
 use Rattle.types.specs.Arena.{Arena, at}
 use Rattle.types.specs.Memory.{Holds}
 use Rattle.types.specs.declared.Counters.{Counters}
@@ -30,13 +30,13 @@ module _ {w s : List ℕ} {c : Counters} {n : ℕ} where
 
   -- the head stands where the start says
   pub head-there : {table : ℕ} {a : Arena} → Holds table w s c a → n < c .nodes → {x : ℕ} → x ≡ getD s n 0 → getD w x 0 ≡ getD (encode (at a n)) 0 0
-  unfolding encode
+  unfolding encode-in
   head-there {a = a} H h {x} e =
       let z : x + 0 ≡ x = omega arith in
       ap (λ (i : ℕ). getD w i 0) (sym z) ∙ sym (getD-drop x w 0 0) ∙ ap (λ (l : List ℕ). getD l 0 0) (ap (λ (i : ℕ). drop i w) e ∙ from-start H n h)
 
   long : {table : ℕ} {a : Arena} → Holds table w s c a → n < c .nodes → {x y : ℕ} → x ≡ getD s n 0 → y ≡ head-count (getD w x 0) → suc y ≡ length (encode (at a n))
-  unfolding encode
+  unfolding encode-in
   long {a = a} H h e f = ap suc (f ∙ ap head-count (head-there H h e)) ∙ span-encode (at a n) (node-formed H h) (after-node H n h)
 
   module _ (L : Lent w s c) (i : n < c .nodes) where

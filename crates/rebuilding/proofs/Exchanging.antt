@@ -9,11 +9,12 @@ use native.Mathlib.Decide.{ℕ-discrete}
 use lib.ListN.{length, getD, take, drop, set, length-set, length-map, length-drop, List·getD-map}
 use lib.Seq.{getD-take, getD-drop, length-take-le, ext-getD, getD-set-same, getD-set-other}
 use borrow.Author.Tests.{eqb-true}
+use Rattle.words.specs.declared.Layout.the-variants as layout
 use Rattle.words.specs.Words.{head-word, field-word, child}
 use Rattle.words.proofs.Words.{field-made}
 use Rattle.types.specs.Same.{same-numbers}
 use Rattle.types.specs.Kind.{disc, body-count}
-use Rattle.types.specs.Node.{positive, negative, Field, field, primitive, list, lambda, attrset, named, Tag, members, bound, var, neg, form, node, kind, data-of, field-names, child-words, body, head-of, encode, below}
+use Rattle.types.specs.Node.{positive, negative, Field, field, primitive, list, lambda, attrset, named, Tag, members, bound, var, neg, form, node, kind, data-of, field-names, child-words, child-words-in, body, head-of, encode, encode-in, below}
 use Rattle.types.proofs.Lists.{below-at, below-cons}
 use Rattle.types.proofs.Nodes.{length-child-words, Formed}
 use Rattle.node_store.proofs.Offspring.{child-inside}
@@ -111,7 +112,7 @@ module _ {ws items : List ℕ} {count : ℕ} {old : List ℕ} (E : Exchanging ws
 -- ---- the words of the node
 -- a node with children has no number of its own
 no-numbers : (t : Tag) (cs : List ℕ) → Formed t cs → 0 < length cs → data-of t .numbers ≡ []
-unfolding body-count child-words
+unfolding body-count child-words-in
 no-numbers (members positive) cs F l = refl
 no-numbers (members negative) cs F l = refl
 no-numbers (bound positive) cs F l = refl
@@ -128,18 +129,18 @@ child-exchanged : (c e : ℕ) → c < 2 ^ 12 → e ≡ with-child c e
 unfolding with-child
 child-exchanged c e l = omega arith
 
-field-exchanged : (o : Bool) (n c e : ℕ) → n < 2 ^ 8 → c < 2 ^ 12 → field-word o n e ≡ with-child (field-word o n c) e
+field-exchanged : (o : Bool) (n c e : ℕ) → n < 2 ^ 16 → c < 2 ^ 12 → field-word o n e ≡ with-child (field-word o n c) e
 unfolding with-child field-word
-field-exchanged o n c e k l = let z = field-made o n c (record { few-names = k; few-nodes = l }) .child-back in omega (arith, z)
+field-exchanged o n c e k l = let z = field-made layout.New o n c (record { few-names = k; few-nodes = l }) .child-back in omega (arith, z)
 
-words-exchanged : (fs : List Field) (cs es : List ℕ) → below (2 ^ 8) (field-names fs) ≡ true → below (2 ^ 12) cs ≡ true → length es ≡ length cs
+words-exchanged : (fs : List Field) (cs es : List ℕ) → below (2 ^ 16) (field-names fs) ≡ true → below (2 ^ 12) cs ≡ true → length es ≡ length cs
     → (j : ℕ) → j < length cs → getD (child-words fs es) j 0 ≡ with-child (getD (child-words fs cs) j 0) (getD es j 0)
-unfolding child-words
+unfolding child-words-in
 words-exchanged [] cs es n e q j l = child-exchanged (getD cs j 0) (getD es j 0) (below-at (2 ^ 12) cs e j l)
 words-exchanged (f ∷ fs) [] es n e q j l = absurd (omega arith)
 words-exchanged (f ∷ fs) (c ∷ cs) [] n e q j l = absurd (omega arith)
-words-exchanged (field o m ∷ fs) (c ∷ cs) (d ∷ es) n e q zero l = field-exchanged o m c d (below-cons (2 ^ 8) m (field-names fs) n .0) (below-cons (2 ^ 12) c cs e .0)
-words-exchanged (field o m ∷ fs) (c ∷ cs) (d ∷ es) n e q (suc j) l = words-exchanged fs cs es (below-cons (2 ^ 8) m (field-names fs) n .1) (below-cons (2 ^ 12) c cs e .1) (omega arith) j (omega arith)
+words-exchanged (field o m ∷ fs) (c ∷ cs) (d ∷ es) n e q zero l = field-exchanged o m c d (below-cons (2 ^ 16) m (field-names fs) n .0) (below-cons (2 ^ 12) c cs e .0)
+words-exchanged (field o m ∷ fs) (c ∷ cs) (d ∷ es) n e q (suc j) l = words-exchanged fs cs es (below-cons (2 ^ 16) m (field-names fs) n .1) (below-cons (2 ^ 12) c cs e .1) (omega arith) j (omega arith)
 
 module _ (t : Tag) (cs : List ℕ) (F : Formed t cs) {count : ℕ} (q : count ≡ length cs) (p : 0 < count) where
   body-is : (ds : List ℕ) → body (node t ds) ≡ child-words (data-of t .fields) ds
@@ -154,7 +155,7 @@ module _ (t : Tag) (cs : List ℕ) (F : Formed t cs) {count : ℕ} (q : count �
 
   -- they are those of the node with these children
   pub exchanged-encode : count ≤ 65 → {items new : List ℕ} → length (take count items) ≡ count → Exchanged (encode (node t cs)) items count new → take (count + 1) new ≡ encode (node t (take count items))
-  unfolding encode
+  unfolding encode-in
   exchanged-encode few {items} {new} l X = ap (λ (i : ℕ). take i new) (add-one count) ∙ ext-getD 0 (take (suc count) new) (encode (node t es)) (omega (arith, long, l, body-length es)) each
     where
       es : List ℕ

@@ -8,7 +8,7 @@ use lib.ListN.{length, getD}
 use borrow.Author.Tests.{lt-ltb}
 use Rattle.words.specs.Words.{head-word}
 use Rattle.types.specs.Kind.{body-count}
-use Rattle.types.specs.Node.{var, node, tag, child-words, head-of, encode, well}
+use Rattle.types.specs.Node.{var, node, tag, child-words-in, head-of, encode, encode-in, well, well-in}
 use Rattle.types.specs.Arena.{Arena, at}
 use Rattle.types.specs.Memory.{Holds}
 use Rattle.types.specs.Reply.{reply-of}
@@ -24,11 +24,11 @@ use Rattle.renumbering.specs.Inner.{VarAt, VarIs, VarWords, RenumbersVar
 use Rattle.renumbering.proofs.Indexing.{index-few}
 
 pub var-well : (table nodes v : ℕ) → v < 2 ^ 32 → well table nodes (var-node v) ≡ true
-unfolding well body-count child-words
+unfolding well-in body-count child-words-in
 var-well table nodes v h = rw (lt-ltb v (2 ^ 32) h)
 
 var-words : (v : ℕ) → encode (var-node v) ≡ head-word 3 false false 1 ∷ v ∷ []
-unfolding encode head-of child-words head-word
+unfolding encode-in head-of child-words-in head-word
 var-words v = refl
 
 -- ---- read

@@ -11,7 +11,7 @@ use Rattle.types.specs.Decimal.{decimal}
 use Rattle.types.proofs.Decimals.{decimal-length}
 use Rattle.appending.specs.Inner.{Writes}
 use Rattle.appending.proofs.Appending.{writes-then}
-use Rattle.sheet_format.specs.Line.{Outcome, type-line, refused-line, line-of, sheet-answer, sheet-line}
+use Rattle.sheet_format.specs.Line.{Outcome, type-line, refused-line, line-of, sheet-answer, sheet-line, sheet-line-in}
 use Rattle.sheet_format.specs.Inner.{Gives, type, refused, AnswersSheet}
 use Rattle.sheet_format.specs.Line.{WritesLine}
 use Rattle.sheet_format.specs.declared.Answer.{Answer}
@@ -56,7 +56,7 @@ module _ {input b b′ : List ℕ} {r : ℕ} (size : length b ≡ 65544) where
 
   module _ {text : List ℕ} {v : Answer} where
     pub line-refused : {e : ℕ} → AnswersSheet input text v → v ≡ answer.Refused e → e < 2 ^ 32 → Writes b 0 (refused-line e) b′ r → WritesLine input b b′ r
-    unfolding sheet-line line-of
+    unfolding sheet-line-in line-of
     line-refused {e} A q h W = whole (ap line-of (sym (given (A .is) q))) (omega (arith, refused-length e h)) W
       where
         given : {z : Answer} {o : Out Outcome} → Gives text z o → z ≡ answer.Refused e → o ≡ refuse e
@@ -64,7 +64,7 @@ module _ {input b b′ : List ℕ} {r : ℕ} (size : length b ≡ 65544) where
         given (refused {e = x}) p = let y : x ≡ e = cc in ap refuse y
 
     pub line-type : {root passes n : ℕ} → AnswersSheet input text v → v ≡ answer.Type root passes n → Writes b 0 (type-line root passes (take n text)) b′ r → WritesLine input b b′ r
-    unfolding sheet-line line-of
+    unfolding sheet-line-in line-of
     line-type {root} {passes} {n} A q W = go (A .is) q refl
       where
         go : {z : Answer} {o : Out Outcome} → Gives text z o → z ≡ answer.Type root passes n → o ≡ sheet-answer input → WritesLine input b b′ r

@@ -5,13 +5,15 @@ use mathlib.Core.List.{List, [], _∷_, _++_}
 use lib.ListN.{length, drop}
 use lib.Dec.{leb}
 use mathlib.Core.Path.{_≡_}
+use Rattle.words.specs.declared.Layout.{Layout}
+use Rattle.words.specs.declared.Layout.the-variants as layout
 use Rattle.types.specs.Out.{Out, ok, refuse, _>>=_}
 use Rattle.types.specs.Bytes.{bytes}
 use Rattle.types.specs.Decimal.{decimal}
 use Rattle.simplification.specs.Passes.{Result, simplify}
 use Rattle.spelling.specs.declared.Spelling.the-variants as spelling
 use Rattle.text_writing.specs.Text.{type-text}
-use Rattle.sheet_reading.specs.Sheet.{Sheet, read-sheet}
+use Rattle.sheet_reading.specs.Sheet.{Sheet, read-sheet-in}
 
 -- what the type of a sheet's root becomes: the root after `simplify`, the passes made, the text
 pub record Outcome : Type 0 where
@@ -36,9 +38,12 @@ unfolding simplify printed _>>=_
 sheet-type sh = simplify 16384 4096 (sh .root) (sh .arena) >>= printed sh
 
 -- the same from the bytes of the sheet, or the first fault met
-unfoldable pub sheet-answer : List ℕ → Out Outcome
-unfolding read-sheet sheet-type _>>=_
-sheet-answer input = read-sheet input >>= sheet-type
+unfoldable pub sheet-answer-in : Layout → List ℕ → Out Outcome
+unfolding read-sheet-in sheet-type _>>=_
+sheet-answer-in l input = read-sheet-in l input >>= sheet-type
+
+abbrev pub sheet-answer : List ℕ → Out Outcome
+sheet-answer = sheet-answer-in layout.New
 
 -- root, passes and text, split by spaces; the line ends with byte 10
 unfoldable pub type-line : ℕ → ℕ → List ℕ → List ℕ
@@ -55,10 +60,13 @@ unfolding type-line refused-line
 line-of (ok v) = type-line (v .root) (v .passes) (v .text)
 line-of (refuse e) = refused-line e
 
--- the line of the sheet with these bytes
-unfoldable pub sheet-line : List ℕ → List ℕ
-unfolding line-of sheet-answer
-sheet-line input = line-of (sheet-answer input)
+-- the line of the sheet with these bytes; that of an old sheet is what it was (02, A2)
+unfoldable pub sheet-line-in : Layout → List ℕ → List ℕ
+unfolding line-of sheet-answer-in
+sheet-line-in l input = line-of (sheet-answer-in l input)
+
+abbrev pub sheet-line : List ℕ → List ℕ
+sheet-line = sheet-line-in layout.New
 
 -- r is the length of the sheet's line, which fits and stands first in the bytes b; the others are as they were
 pub record WritesLine (input b b′ : List ℕ) (r : ℕ) : Type 0 where

@@ -11,6 +11,7 @@ use spelling::Spelling;
 use text_writing::pieces::write_short;
 use types::Counters;
 use types::short_text::ShortText;
+use words::Layout;
 ghost use mathlib.Core.List.{_++_};
 ghost use Rattle.types.specs.Bytes.{bytes};
 ghost use Rattle.types.specs.Decimal.{decimal};
@@ -85,7 +86,7 @@ fn answer_sheet(input: &[u8], words: &mut [u32], starts: &mut [u32], text: &mut 
     requires { ⌜ Empty (now words) (now starts) (now text) ⌝ }
     ensures { λ r. ⌜ AnswersSheet (now (input .entry)) (now (text .exit)) r ⌝ }
 {
-    let reading = read_sheet(input, words, starts);
+    let reading = read_sheet(Layout::New, input, words, starts);
     let Reading::Sheet(end, c, root) = reading else {
         return Answer::Refused(reading.refusal());
     };

@@ -6,6 +6,7 @@ use mathlib.Core.List.{List, _∷_}
 use mathlib.Core.Option.{Option, none, some}
 use native.Mathlib.Omega.{arith}
 use lib.ListN.{length}
+use Rattle.words.specs.declared.Layout.the-variants as layout
 use Rattle.types.specs.Out.{Out, ok, refuse, number, _>>=_}
 use Rattle.types.specs.Node.{Node, decode}
 use Rattle.types.specs.Arena.{Arena, find}
@@ -26,24 +27,24 @@ use Rattle.sheet_reading.specs.Inner.Steps.{Adds, done, stop, AddsNode}
 
 -- ---- the definition, case by case
 module _ (lw ls table : ℕ) (ws : List ℕ) (a : Arena) where
-  added-fault : {e : ℕ} → decode table (length a) ws ≡ refuse e → added lw ls table ws a ≡ refuse e
+  added-fault : {e : ℕ} → decode table (length a) ws ≡ refuse e → added layout.New lw ls table ws a ≡ refuse e
   unfolding added
   added-fault p = ap (λ (o : Out Node). o >>= placed lw ls a) p
 
   module _ {x : Node} (p : decode table (length a) ws ≡ ok x) where
-    added-is : added lw ls table ws a ≡ placed lw ls a x
+    added-is : added layout.New lw ls table ws a ≡ placed lw ls a x
     unfolding added
     added-is = ap (λ (o : Out Node). o >>= placed lw ls a) p
 
-    added-stored : {n : ℕ} → find x a ≡ some n → added lw ls table ws a ≡ refuse 10
+    added-stored : {n : ℕ} → find x a ≡ some n → added layout.New lw ls table ws a ≡ refuse 10
     unfolding placed
     added-stored f = added-is ∙ rw (placed, f)
 
-    added-full : find x a ≡ none → has-room lw ls (x ∷ a) ≡ false → added lw ls table ws a ≡ refuse 7
+    added-full : find x a ≡ none → has-room lw ls (x ∷ a) ≡ false → added layout.New lw ls table ws a ≡ refuse 7
     unfolding placed
     added-full f r = added-is ∙ rw (placed, f, r)
 
-    added-new : find x a ≡ none → has-room lw ls (x ∷ a) ≡ true → added lw ls table ws a ≡ ok (x ∷ a)
+    added-new : find x a ≡ none → has-room lw ls (x ∷ a) ≡ true → added layout.New lw ls table ws a ≡ ok (x ∷ a)
     unfolding placed
     added-new f r = added-is ∙ rw (placed, f, r)
 

@@ -4,8 +4,10 @@ pub mod Readers
 pub mod Naming
 pub mod Tabling
 pub mod Copying
+pub mod Renewing
 pub mod Measuring
 pub mod Adding
 pub mod Cutting
 pub mod Storing
 pub mod Sheets
+pub mod Outcomes

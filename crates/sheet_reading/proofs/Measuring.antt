@@ -47,16 +47,21 @@ module _ (bs : List ℕ) where
     unfolding node-length
     measured-good e = measured-is ∙ rw (node-length, e)
 
-  measured-few : (n : ℕ) → measured bs ≡ ok n → n ≤ 66
+  -- how many words it can be
+  record Measured (n : ℕ) : Type 0 where
+    pub some : 1 ≤ n
+    pub few : n ≤ 66
+
+  measured-few : (n : ℕ) → measured bs ≡ ok n → Measured n
   measured-few n e = sized (leb 4 (length bs)) refl
     where
-      judged : 4 ≤ length bs → (t : Bool) → head-fits (value (take 4 bs)) ≡ t → n ≤ 66
+      judged : 4 ≤ length bs → (t : Bool) → head-fits (value (take 4 bs)) ≡ t → Measured n
       judged h false p = absurd (never-refused e (measured-bad h p))
       judged h true p =
           let q : suc (head-count (value (take 4 bs))) ≡ n = same-value (sym (measured-good h p) ∙ e) in
-          omega (arith, q, head-few (value (take 4 bs)) p)
+          record { some = omega (arith, q); few = omega (arith, q, head-few (value (take 4 bs)) p) }
 
-      sized : (t : Bool) → leb 4 (length bs) ≡ t → n ≤ 66
+      sized : (t : Bool) → leb 4 (length bs) ≡ t → Measured n
       sized false p = absurd (never-refused e (measured-none (leb-false 4 (length bs) p)))
       sized true p = judged (leb-true 4 (length bs) p) (head-fits (value (take 4 bs))) refl
 
@@ -76,6 +81,7 @@ module _ (bs : List ℕ) where
 -- what it means that a node's words were read
 pub record WordsAre (bs : List ℕ) (v : List ℕ × List ℕ) : Type 0 where
   pub count : ℕ
+  pub some : 1 ≤ count
   pub few : count ≤ 66
   pub long : 4 * count ≤ length bs
   pub is : v .0 ≡ words count (take (4 * count) bs)
@@ -88,7 +94,7 @@ words-are bs v e = go (measured bs) refl
     sized n p false q = absurd (never-refused e (words-cut bs p (leb-false (4 * n) (length bs) q)))
     sized n p true q =
         let l = leb-true (4 * n) (length bs) q in
-        subst (WordsAre bs) (same-value (sym (words-whole bs p l) ∙ e)) (record { count = n; few = measured-few bs n p; long = l; is = refl; rest = refl })
+        subst (WordsAre bs) (same-value (sym (words-whole bs p l) ∙ e)) (record { count = n; some = measured-few bs n p .some; few = measured-few bs n p .few; long = l; is = refl; rest = refl })
 
     go : (o : Out ℕ) → measured bs ≡ o → WordsAre bs v
     go (ok n) p = sized n p (leb (4 * n) (length bs)) refl

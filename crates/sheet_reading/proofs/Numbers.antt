@@ -34,4 +34,4 @@ module _ {bytes : List ℕ} {at : ℕ} where
   word-is I A B =
       let z = four (drop at bytes) (omega (arith, length-drop at bytes, I .fits)) in
       let p = ap (λ (l : List ℕ). value (take 2 l)) (drop-drop 2 at bytes) in
-      record { is = omega (arith, z, p, A .is, B .is) }
+      record { is = omega (arith, z, p, A .is, B .is); small = omega (arith, A .small, B .small) }

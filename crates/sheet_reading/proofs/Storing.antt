@@ -1,10 +1,14 @@
 -- Nodes read into memory, one after another: what is left to read goes on from the arena that memory holds.
-use Prim.Native.Nat.{ℕ, suc, _*_, _-_, _<_, _≤_}
+use Prim.Native.Nat.{ℕ, suc, _*_, _-_, _^_, _<_, _≤_}
 use mathlib.Core.Path.{_≡_, refl, sym, ap, _∙_, subst}
+use mathlib.Core.Bool.{true}
 use mathlib.Core.List.{List, []}
 use native.Mathlib.Omega.{arith}
 use lib.ListN.{length, take, drop, replicate, length-drop, length-replicate}
 use lib.Seq.{length-take-le}
+use Rattle.words.specs.declared.Layout.{Layout}
+use Rattle.words.specs.declared.Layout.the-variants as layout
+use Rattle.types.specs.Node.{Node, below}
 use Rattle.types.specs.Out.{Out, ok, refuse, _>>=_}
 use Rattle.types.specs.Arena.{Arena}
 use Rattle.types.specs.Memory.{Holds}
@@ -14,8 +18,8 @@ use Rattle.node_store.specs.declared.added.Interned.the-variants as interned
 use Rattle.node_filter.specs.Inner.Filter.{CoversLent, CoversAfter}
 use Rattle.node_filter.proofs.Filters.{covers-empty}
 use Rattle.names.proofs.Walking.{part}
-use Rattle.sheet_reading.specs.Sheet.{words, node-words, added, node, nodes}
-use Rattle.sheet_reading.specs.Inner.Steps.{ReadsWords, Stretch, Copied, Adds, AddsNode, Stores, to, stop, Ready, StoresNode, CoversNodes, ReadyEmpty, StoresNodes}
+use Rattle.sheet_reading.specs.Sheet.{words, node-words, placed, added, node, nodes}
+use Rattle.sheet_reading.specs.Inner.Steps.{ReadsWords, Stretch, new-words, CopiedAs, Adds, AddsNode, Stores, to, stop, Ready, StoresNode, CoversNodes, ReadyEmpty, StoresNodes}
 use Rattle.sheet_reading.specs.Inner.Steps as steps
 use Rattle.sheet_reading.specs.declared.bytes.Place.{Place}
 use Rattle.sheet_reading.specs.declared.bytes.Place.the-variants as place
@@ -23,6 +27,7 @@ use Rattle.sheet_reading.specs.declared.nodes.Nodes.{Nodes}
 use Rattle.sheet_reading.specs.declared.nodes.Nodes.the-variants as stored
 use Rattle.sheet_reading.proofs.Readers.{Got, got, refused}
 use Rattle.sheet_reading.proofs.Measuring.{WordsAre, words-are}
+use Rattle.sheet_reading.proofs.Renewing.{decode-renewed}
 
 -- ---- outcomes taken apart, and made from equations
 record Added (table : ℕ) (w s : List ℕ) (d : Counters) (o : Out Arena) : Type 0 where
@@ -64,30 +69,36 @@ module _ {bytes : List ℕ} {table : ℕ} {w s : List ℕ} where
   stored-stop {e = e} p = subst (Stores bytes table w s (stored.Refused e)) (sym p) stop
 
 -- ---- the definition, case by case
-module _ (lw ls table : ℕ) (a : Arena) (bs : List ℕ) where
-  node-stop : {e : ℕ} → node-words bs ≡ refuse e → node lw ls table a bs ≡ refuse e
+module _ (l : Layout) (lw ls table : ℕ) (a : Arena) (bs : List ℕ) where
+  node-stop : {e : ℕ} → node-words bs ≡ refuse e → node l lw ls table a bs ≡ refuse e
   unfolding node
-  node-stop p = ap (λ (o : Out (List ℕ × List ℕ)). o >>= λ (r : List ℕ × List ℕ). added lw ls table (r .0) a >>= λ (b : Arena). ok (b, r .1)) p
+  node-stop p = ap (λ (o : Out (List ℕ × List ℕ)). o >>= λ (r : List ℕ × List ℕ). added l lw ls table (r .0) a >>= λ (b : Arena). ok (b, r .1)) p
 
-  node-next : {ws u : List ℕ} {o : Out Arena} → node-words bs ≡ ok (ws, u) → added lw ls table ws a ≡ o → node lw ls table a bs ≡ (o >>= λ (b : Arena). ok (b, u))
+  node-next : {ws u : List ℕ} {o : Out Arena} → node-words bs ≡ ok (ws, u) → added l lw ls table ws a ≡ o → node l lw ls table a bs ≡ (o >>= λ (b : Arena). ok (b, u))
   unfolding node
   node-next {u = u} p q =
-      ap (λ (o : Out (List ℕ × List ℕ)). o >>= λ (r : List ℕ × List ℕ). added lw ls table (r .0) a >>= λ (b : Arena). ok (b, r .1)) p
+      ap (λ (o : Out (List ℕ × List ℕ)). o >>= λ (r : List ℕ × List ℕ). added l lw ls table (r .0) a >>= λ (b : Arena). ok (b, r .1)) p
       ∙ ap (λ (o : Out Arena). o >>= λ (b : Arena). ok (b, u)) q
 
   module _ (k : ℕ) where
-    nodes-stop : {e : ℕ} → node lw ls table a bs ≡ refuse e → nodes lw ls table (suc k) a bs ≡ refuse e
+    nodes-stop : {e : ℕ} → node l lw ls table a bs ≡ refuse e → nodes l lw ls table (suc k) a bs ≡ refuse e
     unfolding nodes
-    nodes-stop p = ap (λ (o : Out (Arena × List ℕ)). o >>= λ (r : Arena × List ℕ). nodes lw ls table k (r .0) (r .1)) p
+    nodes-stop p = ap (λ (o : Out (Arena × List ℕ)). o >>= λ (r : Arena × List ℕ). nodes l lw ls table k (r .0) (r .1)) p
 
-    nodes-next : {b : Arena} {u : List ℕ} → node lw ls table a bs ≡ ok (b, u) → nodes lw ls table (suc k) a bs ≡ nodes lw ls table k b u
+    nodes-next : {b : Arena} {u : List ℕ} → node l lw ls table a bs ≡ ok (b, u) → nodes l lw ls table (suc k) a bs ≡ nodes l lw ls table k b u
     unfolding nodes
-    nodes-next p = ap (λ (o : Out (Arena × List ℕ)). o >>= λ (r : Arena × List ℕ). nodes lw ls table k (r .0) (r .1)) p
+    nodes-next p = ap (λ (o : Out (Arena × List ℕ)). o >>= λ (r : Arena × List ℕ). nodes l lw ls table k (r .0) (r .1)) p
+
+-- the words of a node in today's layout are added as they would be in their own
+added-as : (l : Layout) (lw ls table : ℕ) (ws : List ℕ) (a : Arena) → below (2 ^ 32) ws ≡ true → added l lw ls table ws a ≡ added layout.New lw ls table (new-words l ws) a
+unfolding added
+added-as layout.Old lw ls table ws a e = ap (λ (o : Out Node). o >>= placed lw ls a) (decode-renewed table (length a) ws e)
+added-as layout.New lw ls table ws a e = refl
 
 -- ---- one node
 module _ {bytes : List ℕ} {at : ℕ} {r : Place} (R : ReadsWords bytes at r) where
-  pub node-refused : {table : ℕ} {w s : List ℕ} {c : Counters} {e : ℕ} → r ≡ place.Refused e → StoresNode bytes at table w s c w s (stored.Refused e)
-  node-refused {table} {w} {s} p = record { is = λ a H. stored-stop (node-stop (length w) (length s) table a (drop at bytes) (refused (R .is) p)) }
+  pub node-refused : {l : Layout} {table : ℕ} {w s : List ℕ} {c : Counters} {e : ℕ} → r ≡ place.Refused e → StoresNode l bytes at table w s c w s (stored.Refused e)
+  node-refused {l} {table} {w} {s} p = record { is = λ a H. stored-stop (node-stop l (length w) (length s) table a (drop at bytes) (refused (R .is) p)) }
 
   module _ {e : ℕ} (p : r ≡ place.At e) where
     G : Got bytes at (node-words (drop at bytes)) e
@@ -110,9 +121,9 @@ module _ {bytes : List ℕ} {at : ℕ} {r : Place} (R : ReadsWords bytes at r) w
     long = length-take-le (e - at) (drop at bytes) (omega (arith, length-drop at bytes, G .high, G .low)) ∙ size
 
     pub node-stretch : {new : List ℕ} → length new ≡ 66 → Stretch (part bytes at e) new
-    node-stretch q = record { few = omega (arith, long, A .few); size = q }
+    node-stretch q = record { some = omega (arith, long, A .some); few = omega (arith, long, A .few); size = q }
 
-    module _ {new : List ℕ} {n : ℕ} (C : Copied (part bytes at e) new n) where
+    module _ {l : Layout} {new : List ℕ} {n : ℕ} (C : CopiedAs l (part bytes at e) new n) where
       count-is : n ≡ A .count
       count-is = omega (arith, C .count, long)
 
@@ -122,20 +133,29 @@ module _ {bytes : List ℕ} {at : ℕ} {r : Place} (R : ReadsWords bytes at r) w
       pub node-share : n ≡ length (take n new)
       node-share = sym (length-take-le n new node-room)
 
-      read : node-words (drop at bytes) ≡ ok (take n new, drop e bytes)
-      read = G .is ∙ ap (λ (ws : List ℕ). ok (ws, drop e bytes)) (A .is ∙ sym (C .is ∙ (λ i. words (count-is i) (take (size i) (drop at bytes)))))
+      -- the words of the node as they stand in the sheet
+      ws : List ℕ
+      ws = words n (part bytes at e)
+
+      read : node-words (drop at bytes) ≡ ok (ws, drop e bytes)
+      unfolding ws
+      read = G .is ∙ ap (λ (us : List ℕ). ok (us, drop e bytes)) (A .is ∙ sym (λ i. words (count-is i) (take (size i) (drop at bytes))))
+
+      adding : (lw ls table : ℕ) (a : Arena) → added l lw ls table ws a ≡ added layout.New lw ls table (take n new) a
+      unfolding ws
+      adding lw ls table a = added-as l lw ls table ws a (C .small) ∙ ap (λ (us : List ℕ). added layout.New lw ls table us a) (sym (C .is))
 
       module _ {table : ℕ} {w s : List ℕ} {c : Counters} {w′ s′ : List ℕ} {i : Interned} (D : AddsNode table w s c (take n new) w′ s′ i) where
-        pub node-not-added : {x : ℕ} → i ≡ interned.Refused x → StoresNode bytes at table w s c w′ s′ (stored.Refused x)
+        pub node-not-added : {x : ℕ} → i ≡ interned.Refused x → StoresNode l bytes at table w s c w′ s′ (stored.Refused x)
         unfolding _>>=_
-        node-not-added q = record { is = λ a H. stored-stop (node-next (length w) (length s) table a (drop at bytes) read (adds-stop (D .is a H) q)) }
+        node-not-added q = record { is = λ a H. stored-stop (node-next l (length w) (length s) table a (drop at bytes) read (adding (length w) (length s) table a ∙ adds-stop (D .is a H) q)) }
 
-        pub node-added : {k : ℕ} {d : Counters} → i ≡ interned.Node k d → StoresNode bytes at table w s c w′ s′ (stored.To e d)
+        pub node-added : {k : ℕ} {d : Counters} → i ≡ interned.Node k d → StoresNode l bytes at table w s c w′ s′ (stored.To e d)
         unfolding _>>=_
         node-added q = record {
           is = λ a H.
               let B = adds-done (D .is a H) q in
-              stored-to (node-next (length w) (length s) table a (drop at bytes) read (B .is)) (G .high) (B .holds);
+              stored-to (node-next l (length w) (length s) table a (drop at bytes) read (adding (length w) (length s) table a ∙ B .is)) (G .high) (B .holds);
         }
 
 -- ---- the filter
@@ -146,39 +166,39 @@ pub nodes-told : {w s f : List ℕ} {i : Interned} {n e : ℕ} {d : Counters} �
 nodes-told {w} {s} {f} {n = n} {d = d} C q = record { is = λ k g p. let u : d ≡ g = cc in subst (λ (h : Counters). CoversLent w s h f) u (C .is n d q) }
 
 -- ---- the loop
-pub record Turn (bytes : List ℕ) (first : ℕ) (w₀ s₀ : List ℕ) (table count : ℕ) (w s : List ℕ) (at : ℕ) (c : Counters) (left : ℕ) (filter : List ℕ) : Type 0 where
+pub record Turn (l : Layout) (bytes : List ℕ) (first : ℕ) (w₀ s₀ : List ℕ) (table count : ℕ) (w s : List ℕ) (at : ℕ) (c : Counters) (left : ℕ) (filter : List ℕ) : Type 0 where
   pub words-long : length w ≡ length w₀
   pub starts-long : length s ≡ length s₀
   pub arena : Arena
   pub holds : Holds table w s c arena
   pub inside : at ≤ length bytes
   pub covers : CoversLent w s c filter
-  pub same : nodes (length w₀) (length s₀) table count [] (drop first bytes) ≡ nodes (length w₀) (length s₀) table left arena (drop at bytes)
+  pub same : nodes l (length w₀) (length s₀) table count [] (drop first bytes) ≡ nodes l (length w₀) (length s₀) table left arena (drop at bytes)
 
-module _ {bytes : List ℕ} {first : ℕ} {w₀ s₀ : List ℕ} {table count : ℕ} where
-  pub turn-start : ReadyEmpty bytes first table w₀ s₀ → Turn bytes first w₀ s₀ table count w₀ s₀ first (record { nodes = 0; words = 0 }) count (replicate 2048 0)
+module _ {l : Layout} {bytes : List ℕ} {first : ℕ} {w₀ s₀ : List ℕ} {table count : ℕ} where
+  pub turn-start : ReadyEmpty bytes first table w₀ s₀ → Turn l bytes first w₀ s₀ table count w₀ s₀ first (record { nodes = 0; words = 0 }) count (replicate 2048 0)
   turn-start E = record { words-long = refl; starts-long = refl; arena = []; holds = E .holds; inside = E .inside; covers = covers-empty (E .holds) (length-replicate {A = ℕ} 2048 0); same = refl }
 
-  module _ {w s : List ℕ} {at : ℕ} {c : Counters} {left : ℕ} {filter : List ℕ} (T : Turn bytes first w₀ s₀ table count w s at c left filter) where
+  module _ {w s : List ℕ} {at : ℕ} {c : Counters} {left : ℕ} {filter : List ℕ} (T : Turn l bytes first w₀ s₀ table count w s at c left filter) where
     pub turn-ready : Ready bytes at table w s c
     turn-ready = record { inside = T .inside; view = T .arena; holds = T .holds }
 
     pub turn-covered : CoversLent w s c filter
     turn-covered = T .covers
 
-    module _ (h : 0 < left) {w′ s′ : List ℕ} {r : Nodes} (N : StoresNode bytes at table w s c w′ s′ r) where
-      one : Stores bytes table w′ s′ r (node (length w₀) (length s₀) table (T .arena) (drop at bytes))
-      one = subst (Stores bytes table w′ s′ r) (λ i. node (T .words-long i) (T .starts-long i) table (T .arena) (drop at bytes)) (N .is (T .arena) (T .holds))
+    module _ (h : 0 < left) {w′ s′ : List ℕ} {r : Nodes} (N : StoresNode l bytes at table w s c w′ s′ r) where
+      one : Stores bytes table w′ s′ r (node l (length w₀) (length s₀) table (T .arena) (drop at bytes))
+      one = subst (Stores bytes table w′ s′ r) (λ i. node l (T .words-long i) (T .starts-long i) table (T .arena) (drop at bytes)) (N .is (T .arena) (T .holds))
 
-      nodes-here : {o : Out (Arena × List ℕ)} → nodes (length w₀) (length s₀) table (suc (left - 1)) (T .arena) (drop at bytes) ≡ o → nodes (length w₀) (length s₀) table count [] (drop first bytes) ≡ o
+      nodes-here : {o : Out (Arena × List ℕ)} → nodes l (length w₀) (length s₀) table (suc (left - 1)) (T .arena) (drop at bytes) ≡ o → nodes l (length w₀) (length s₀) table count [] (drop first bytes) ≡ o
       nodes-here p =
           let i : left ≡ suc (left - 1) = omega (arith, h) in
-          T .same ∙ ap (λ (k : ℕ). nodes (length w₀) (length s₀) table k (T .arena) (drop at bytes)) i ∙ p
+          T .same ∙ ap (λ (k : ℕ). nodes l (length w₀) (length s₀) table k (T .arena) (drop at bytes)) i ∙ p
 
-      pub turn-stop : {e : ℕ} → r ≡ stored.Refused e → StoresNodes bytes first table count w₀ s₀ w′ s′ r
-      turn-stop p = subst (StoresNodes bytes first table count w₀ s₀ w′ s′) (sym p) (record { is = stored-stop (nodes-here (nodes-stop (length w₀) (length s₀) table (T .arena) (drop at bytes) (left - 1) (stores-stop one p))) })
+      pub turn-stop : {e : ℕ} → r ≡ stored.Refused e → StoresNodes l bytes first table count w₀ s₀ w′ s′ r
+      turn-stop p = subst (StoresNodes l bytes first table count w₀ s₀ w′ s′) (sym p) (record { is = stored-stop (nodes-here (nodes-stop l (length w₀) (length s₀) table (T .arena) (drop at bytes) (left - 1) (stores-stop one p))) })
 
-      pub turn-more : {e : ℕ} {d : Counters} {filter′ : List ℕ} → CoversNodes w′ s′ r filter′ → r ≡ stored.To e d → length w′ ≡ length w → length s′ ≡ length s → Turn bytes first w₀ s₀ table count w′ s′ e d (left - 1) filter′
+      pub turn-more : {e : ℕ} {d : Counters} {filter′ : List ℕ} → CoversNodes w′ s′ r filter′ → r ≡ stored.To e d → length w′ ≡ length w → length s′ ≡ length s → Turn l bytes first w₀ s₀ table count w′ s′ e d (left - 1) filter′
       turn-more {e} {d} C p lw ls =
           let S = stores-to one p in
           record {
@@ -188,11 +208,11 @@ module _ {bytes : List ℕ} {first : ℕ} {w₀ s₀ : List ℕ} {table count : 
             holds = S .holds;
             inside = S .high;
             covers = C .is e d p;
-            same = nodes-here (nodes-next (length w₀) (length s₀) table (T .arena) (drop at bytes) (left - 1) (S .is));
+            same = nodes-here (nodes-next l (length w₀) (length s₀) table (T .arena) (drop at bytes) (left - 1) (S .is));
           }
 
-    pub turn-done : left ≤ 0 → StoresNodes bytes first table count w₀ s₀ w s (stored.To at c)
+    pub turn-done : left ≤ 0 → StoresNodes l bytes first table count w₀ s₀ w s (stored.To at c)
     unfolding nodes
     turn-done h =
         let z : left ≡ 0 = omega (arith, h) in
-        record { is = stored-to (T .same ∙ ap (λ (k : ℕ). nodes (length w₀) (length s₀) table k (T .arena) (drop at bytes)) z) (T .inside) (T .holds) }
+        record { is = stored-to (T .same ∙ ap (λ (k : ℕ). nodes l (length w₀) (length s₀) table k (T .arena) (drop at bytes)) z) (T .inside) (T .holds) }

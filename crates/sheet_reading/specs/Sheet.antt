@@ -1,4 +1,5 @@
--- What a sheet says, read from the front: the first fault met is the answer (01, "A sheet and its line").
+-- What a sheet says, read from the front: the first fault met is the answer (01, "A sheet and its line"). The layout of its field words and
+-- the most names that it may have are a parameter (02, A2).
 use Prim.Native.Nat.{ℕ, zero, suc, _+_, _*_}
 use mathlib.Core.Bool.{true, false, _&&_}
 use mathlib.Core.List.{List, [], _∷_, _++_}
@@ -6,11 +7,13 @@ use mathlib.Core.Option.{none, some}
 use lib.ListN.{length, take, drop}
 use lib.Dec.{eqb, leb, ltb}
 use Rattle.words.specs.Words.{head-count}
+use Rattle.words.specs.declared.Layout.{Layout}
+use Rattle.words.specs.declared.Layout.the-variants as layout
 use Rattle.types.specs.Out.{Out, ok, refuse, _>>=_}
-use Rattle.types.specs.Node.{Node, decode}
+use Rattle.types.specs.Node.{Node, decode-in}
 use Rattle.types.specs.Fault.{head-fits}
 use Rattle.types.specs.Arena.{Arena, find}
-use Rattle.names.specs.Table.{Name, may-follow}
+use Rattle.names.specs.Table.{Name, may-follow, most-names}
 use Rattle.node_store.specs.Intern.{has-room}
 
 -- a reader takes bytes from the front: what they say with the bytes that are left, or the number of the first fault
@@ -99,11 +102,11 @@ module _ (lent-words lent-starts : ℕ) where
       elim (find x a)
       [ some n ↦ refuse 10 | none ↦ elim (has-room lent-words lent-starts (x ∷ a)) [ false ↦ refuse 7 | true ↦ ok (x ∷ a) ] ]
 
-module _ (lent-words lent-starts table : ℕ) where
+module _ (l : Layout) (lent-words lent-starts table : ℕ) where
   -- the node with these words put behind the others; before that its faults 3, 4, 5 over the whole node
   unfoldable pub added : List ℕ → Arena → Out Arena
-  unfolding decode placed _>>=_
-  added ws a = decode table (length a) ws >>= placed lent-words lent-starts a
+  unfolding decode-in placed _>>=_
+  added ws a = decode-in l table (length a) ws >>= placed lent-words lent-starts a
 
   -- the arena with the next node
   unfoldable pub node : Arena → Reader Arena
@@ -123,16 +126,16 @@ pub record Sheet : Type 0 where
   pub root : ℕ
 
 -- what follows the table with these names: the nodes, in an arena of full size
-unfoldable pub after-names : Opening → List Name × List ℕ → Out (Sheet × List ℕ)
+unfoldable pub after-names : Layout → Opening → List Name × List ℕ → Out (Sheet × List ℕ)
 unfolding nodes _>>=_
-after-names o t =
-    nodes 16384 4096 (o .names) (o .nodes) [] (t .1)
+after-names l o t =
+    nodes l 16384 4096 (o .names) (o .nodes) [] (t .1)
     >>= λ (a : Arena × List ℕ). ok (record { names = t .0; arena = a .0; root = o .root }, a .1)
 
--- what follows the opening; a name count over 256 is 1
-unfoldable pub contents : Opening → Reader Sheet
+-- what follows the opening; a name count over the most is 1
+unfoldable pub contents : Layout → Opening → Reader Sheet
 unfolding names after-names _>>=_
-contents o bs = elim (leb (o .names) 256) [ false ↦ refuse 1 | true ↦ names (o .names) [] bs >>= after-names o ]
+contents l o bs = elim (leb (o .names) (most-names l)) [ false ↦ refuse 1 | true ↦ names (o .names) [] bs >>= after-names l o ]
 
 -- after the last node: bytes left over, of a sheet with so many bytes, are 10; then a root that is no node is 6
 unfoldable pub ended : ℕ → Sheet × List ℕ → Out Sheet
@@ -142,6 +145,9 @@ ended size r = elim (eqb (length (r .1)) 0 && leb size 65536) [
 ]
 
 -- the bytes past 65,536 are never read
-unfoldable pub read-sheet : List ℕ → Out Sheet
+unfoldable pub read-sheet-in : Layout → List ℕ → Out Sheet
 unfolding opening contents ended _>>=_
-read-sheet input = opening (take 65536 input) >>= λ (o : Opening × List ℕ). contents (o .0) (o .1) >>= ended (length input)
+read-sheet-in l input = opening (take 65536 input) >>= λ (o : Opening × List ℕ). contents l (o .0) (o .1) >>= ended (length input)
+
+abbrev pub read-sheet : List ℕ → Out Sheet
+read-sheet = read-sheet-in layout.New

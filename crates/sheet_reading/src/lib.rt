@@ -11,8 +11,10 @@ use nodes::read_nodes;
 use table::read_names;
 use types::Counters;
 use types::arc_ty::wide;
+use words::Layout;
 ghost use mathlib.Core.Path.{_≡_};
 ghost use Rattle.types.specs.Out.{number};
+ghost use Rattle.names.specs.Table.{most-names};
 ghost use Rattle.sheet_reading.specs.Inner.Reading.{reading-out, Blank, ReadsSheet, Readable, Opened, ReadsContents};
 
 // Where the table ends, the counters and the root; or the number of a refusal.
@@ -33,8 +35,19 @@ impl Reading {
     }
 }
 
+// How many names a sheet may have.
+fn most_names(layout: Layout) -> usize
+    ensures { λ r. ⌜ r ≡ most-names layout ⌝ }
+{
+    match layout {
+        Layout::Old => 256,
+        Layout::New => 4096,
+    }
+}
+
 // Names and nodes, from the bytes of the input that may be read.
 fn read_contents(
+    layout: Layout,
     input: &[u8],
     bytes: &[u8],
     words: &mut [u32],
@@ -44,16 +57,16 @@ fn read_contents(
     root: u32,
 ) -> Reading
     requires { ⌜ Opened (now input) (now bytes) (now words) (now starts) ⌝ }
-    ensures { λ r. ⌜ ReadsContents (now (input .entry)) (now (bytes .entry)) names nodes root (now (words .exit)) (now (starts .exit)) r ⌝ }
+    ensures { λ r. ⌜ ReadsContents layout (now (input .entry)) (now (bytes .entry)) names nodes root (now (words .exit)) (now (starts .exit)) r ⌝ }
 {
-    if names > 256 {
+    if names > most_names(layout) {
         return Reading::Refused(1);
     }
     let table = read_names(bytes, 6, names);
     let Place::At(end) = table else {
         return Reading::Refused(table.refusal());
     };
-    let stored = read_nodes(bytes, end, words, starts, names, nodes);
+    let stored = read_nodes(layout, bytes, end, words, starts, names, nodes);
     let Nodes::To(at, c) = stored else {
         return Reading::Refused(stored.refusal());
     };
@@ -77,10 +90,10 @@ fn readable(input: &[u8]) -> &[u8]
     input
 }
 
-// Reads the sheet into memory of full size that is all zero.
-pub fn read_sheet(input: &[u8], words: &mut [u32], starts: &mut [u32]) -> Reading
+// Reads the sheet, of this layout, into memory of full size that is all zero.
+pub fn read_sheet(layout: Layout, input: &[u8], words: &mut [u32], starts: &mut [u32]) -> Reading
     requires { ⌜ Blank (now words) (now starts) ⌝ }
-    ensures { λ r. ⌜ ReadsSheet (now (input .entry)) (now (words .exit)) (now (starts .exit)) r ⌝ }
+    ensures { λ r. ⌜ ReadsSheet layout (now (input .entry)) (now (words .exit)) (now (starts .exit)) r ⌝ }
 {
     let bytes = readable(input);
     if bytes.len() < 6 {
@@ -88,5 +101,14 @@ pub fn read_sheet(input: &[u8], words: &mut [u32], starts: &mut [u32]) -> Readin
     }
     let names = wide(short(bytes, 0));
     let nodes = wide(short(bytes, 2));
-    read_contents(input, bytes, words, starts, names, nodes, short(bytes, 4))
+    read_contents(
+        layout,
+        input,
+        bytes,
+        words,
+        starts,
+        names,
+        nodes,
+        short(bytes, 4),
+    )
 }

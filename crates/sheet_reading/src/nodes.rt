@@ -4,10 +4,13 @@ use crate::bytes::word;
 use node_faults::fault;
 use node_faults::head_fits;
 use node_filter::intern_filtered;
+use node_order::field_count;
 use node_store::added::Interned;
 use types::Counters;
 use types::arc_ty::Head;
 use types::arc_ty::wide;
+use types::attrset::renewed;
+use words::Layout;
 ghost use mathlib.Core.Path.{_≡_};
 ghost use Rattle.types.specs.Out.{number};
 ghost use Rattle.node_store.specs.Inner.Added.{Under};
@@ -18,6 +21,9 @@ ghost use Rattle.sheet_reading.specs.Inner.Steps.{
   ReadsWords,
   Stretch,
   Copied,
+  Copying,
+  Renews,
+  CopiedAs,
   AddsNode,
   Ready,
   StoresNode,
@@ -82,6 +88,32 @@ fn copy_words(bytes: &[u8], node: &mut [u32; 66]) -> usize
     count
 }
 
+// Puts the node, of so many words, which are of the old layout, into the new one: its field words are renewed.
+fn renew_node(node: &mut [u32; 66], count: usize)
+    requires { ⌜ Copying (now node) count ⌝ }
+    ensures { λ u. ⌜ Renews (now (node .entry)) count (now (node .exit)) ⌝ }
+{
+    let fields = field_count(Head { word: node[0] }, count - 1);
+    let mut i = 0;
+    while i < fields {
+        i += 1;
+        node[i] = renewed(node[i]);
+    }
+}
+
+// The words of a node of this layout, in the new one, and how many they are.
+fn copy_node(layout: Layout, bytes: &[u8], node: &mut [u32; 66]) -> usize
+    requires { ⌜ Stretch (now bytes) (now node) ⌝ }
+    ensures { λ r. ⌜ CopiedAs layout (now (bytes .entry)) (now (node .exit)) r ⌝ }
+{
+    let count = copy_words(bytes, node);
+    match layout {
+        Layout::Old => renew_node(node, count),
+        Layout::New => {}
+    }
+    count
+}
+
 // Adds the node with these words, which must be without fault and new; the nodes of the arena are in the filter.
 fn add_node(
     words: &mut [u32],
@@ -113,6 +145,7 @@ fn add_node(
 
 // Reads the node whose head stands at `at`.
 fn read_node(
+    layout: Layout,
     bytes: &[u8],
     at: usize,
     words: &mut [u32],
@@ -123,7 +156,7 @@ fn read_node(
 ) -> Nodes
     requires { ⌜ Ready (now bytes) at names (now words) (now starts) c ⌝ }
     requires { ⌜ CoversLent (now words) (now starts) c (now filter) ⌝ }
-    ensures { λ r. ⌜ StoresNode (now (bytes .entry)) at names (now (words .entry)) (now (starts .entry)) c (now (words .exit))
+    ensures { λ r. ⌜ StoresNode layout (now (bytes .entry)) at names (now (words .entry)) (now (starts .entry)) c (now (words .exit))
         (now (starts .exit)) r ⌝ }
     ensures { λ r. ⌜ CoversNodes (now (words .exit)) (now (starts .exit)) r (now (filter .exit)) ⌝ }
 {
@@ -132,7 +165,7 @@ fn read_node(
         return Nodes::Refused(place.refusal());
     };
     let mut node = [0u32; 66];
-    let count = copy_words(&bytes[at..end], &mut node);
+    let count = copy_node(layout, &bytes[at..end], &mut node);
     let interned = add_node(words, starts, c, names, &node[..count], filter);
     let Interned::Node(_, d) = interned else {
         return Nodes::Refused(interned.refusal());
@@ -142,6 +175,7 @@ fn read_node(
 
 // Reads so many nodes from `first` on into memory that holds none.
 pub(crate) fn read_nodes(
+    layout: Layout,
     bytes: &[u8],
     first: usize,
     words: &mut [u32],
@@ -150,7 +184,7 @@ pub(crate) fn read_nodes(
     count: usize,
 ) -> Nodes
     requires { ⌜ ReadyEmpty (now bytes) first names (now words) (now starts) ⌝ }
-    ensures { λ r. ⌜ StoresNodes (now (bytes .entry)) first names count (now (words .entry)) (now (starts .entry)) (now (words .exit))
+    ensures { λ r. ⌜ StoresNodes layout (now (bytes .entry)) first names count (now (words .entry)) (now (starts .entry)) (now (words .exit))
         (now (starts .exit)) r ⌝ }
 {
     let mut at = first;
@@ -158,7 +192,7 @@ pub(crate) fn read_nodes(
     let mut left = count;
     let mut filter = [0u64; 2048];
     while left > 0 {
-        let next = read_node(bytes, at, words, starts, c, names, &mut filter);
+        let next = read_node(layout, bytes, at, words, starts, c, names, &mut filter);
         let Nodes::To(end, d) = next else {
             return next;
         };

@@ -8,6 +8,7 @@ use lib.ListN.{length, take, drop}
 use lib.Seq.{take-at}
 use lib.Dec.{leb, ltb}
 use borrow.Author.Tests.{leb-true, ltb-true}
+use Rattle.words.specs.declared.Layout.the-variants as layout
 use Rattle.types.specs.Out.{Out, ok, refuse, required, _>>=_}
 use Rattle.types.specs.Arena.{Arena}
 use Rattle.types.specs.Memory.{Holds, arena-of}
@@ -56,7 +57,7 @@ module _ (t w s : List ℕ) (c : Counters) (root : ℕ) (b : List ℕ) (n : ℕ)
   unfolding bytes-with
   again ns a T H l x e h =
       let p : sheet-bytes (record { names = ns; arena = a; root = root }) ≡ x = ap (λ (m : List Name). sheet-bytes (record { names = m; arena = a; root = root })) (sym (split-is T)) ∙ e in
-      let G : GoodSheet (record { names = ns; arena = a; root = root }) = record {
+      let G : GoodSheet layout.New (record { names = ns; arena = a; root = root }) = record {
         table = T .good;
         arena = H .good;
         few-words = omega (arith, word-room H, H .total, H .few-words);

@@ -2,7 +2,9 @@
 use Prim.Native.Nat.{ℕ, zero, suc, _/_, _%_}
 use mathlib.Core.List.{List, [], _∷_, _++_}
 use lib.ListN.{length}
-use Rattle.types.specs.Memory.{flat}
+use Rattle.words.specs.declared.Layout.{Layout}
+use Rattle.words.specs.declared.Layout.the-variants as layout
+use Rattle.types.specs.Memory.{flat-in, flat}
 use Rattle.names.specs.Table.{table}
 use Rattle.sheet_reading.specs.Sheet.{Sheet}
 
@@ -22,7 +24,13 @@ unfoldable pub opening-bytes : ℕ → ℕ → ℕ → List ℕ
 unfolding number-bytes
 opening-bytes names nodes root = number-bytes 2 names ++ number-bytes 2 nodes ++ number-bytes 2 root
 
--- then the table, then the words of the nodes from node 0 on
+-- then the table, then the words of the nodes, in a layout (02, A2), from node 0 on
+unfoldable pub sheet-bytes-in : Layout → Sheet → List ℕ
+unfolding opening-bytes table words-bytes flat-in
+sheet-bytes-in l sh =
+    opening-bytes (length (sh .names)) (length (sh .arena)) (sh .root) ++ table (sh .names) ++ words-bytes (flat-in l (sh .arena))
+
+-- in today's
 unfoldable pub sheet-bytes : Sheet → List ℕ
-unfolding opening-bytes table words-bytes flat
-sheet-bytes sh = opening-bytes (length (sh .names)) (length (sh .arena)) (sh .root) ++ table (sh .names) ++ words-bytes (flat (sh .arena))
+unfolding sheet-bytes-in flat
+sheet-bytes = sheet-bytes-in layout.New

@@ -58,7 +58,7 @@ fn write_word(word: u32, bytes: &mut [u8], count: usize) -> usize
 }
 
 // The same of words, one behind another.
-fn write_words(words: &[u32], bytes: &mut [u8], count: usize) -> usize
+pub fn write_words(words: &[u32], bytes: &mut [u8], count: usize) -> usize
     ensures { λ r. ⌜ Writes (now (bytes .entry)) count (words-bytes (now (words .entry))) (now (bytes .exit)) r ⌝ }
 {
     let mut end = count;

@@ -4,7 +4,7 @@ use mathlib.Core.Bool.{true}
 use mathlib.Core.List.{[], _∷_}
 use native.Mathlib.Omega.{arith}
 use Rattle.types.specs.Out.{ok}
-use Rattle.types.specs.Node.{positive, primitive, child-words}
+use Rattle.types.specs.Node.{positive, primitive, child-words-in}
 use Rattle.types.specs.Arena.{Arena, at, sound}
 use Rattle.types.specs.Places.{self}
 use Rattle.types.proofs.Tests.{true-false}
@@ -24,7 +24,7 @@ abbrev result : Result
 result = record { root = 2; arena = grown; taken = record { root = 4; arena = unpolar } ∷ record { root = 5; arena = grown } ∷ record { root = 2; arena = grown } ∷ [] }
 
 simplified : simplify 16384 4096 4 unpolar ≡ ok result
-unfolding simplify child-words
+unfolding simplify child-words-in
 simplified = refl
 
 -- one mark, which int has, and a and b don't
@@ -32,7 +32,7 @@ abbrev reading : Reading
 reading = fitting (result .taken) 1 (record { own = primitive 2; children = []; value = λ m. true } ∷ [])
 
 good : sound 0 unpolar ≡ true
-unfolding sound child-words
+unfolding sound child-words-in
 good = refl
 
 fits : ReadingFits reading (result .taken)

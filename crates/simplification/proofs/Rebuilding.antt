@@ -8,7 +8,7 @@ use lib.ListN.{length}
 use lib.Dec.{leb}
 use borrow.Author.Tests.{eqb-true, leb-true, le-leb}
 use Rattle.types.specs.Kind.{body-count}
-use Rattle.types.specs.Node.{Polarity, positive, negative, Tag, members, bound, neg, Node, node, tag, children, kind, data-of, child-words, below, formed, linked, rising, well}
+use Rattle.types.specs.Node.{Polarity, positive, negative, Tag, members, bound, neg, Node, node, tag, children, kind, data-of, child-words-in, below, formed, linked, rising, well, well-in}
 use Rattle.types.specs.Arena.{Arena, at, sound}
 use Rattle.types.proofs.Tests.{and-true, both}
 use Rattle.types.proofs.Lists.{below-more}
@@ -24,11 +24,11 @@ list-count positive n = refl
 list-count negative n = refl
 
 pub formed-list : (k : Polarity) (ms : List ℕ) → formed (node (members k) ms) ≡ true → 0 < length ms
-unfolding child-words
+unfolding child-words-in
 formed-list k ms e = leb-true 1 (length ms) (and-true (leb 1 (length ms)) _ (sym (list-count k (length ms)) ∙ formed-parts (members k) ms e .counted) .0)
 
 formed-neg : (cs : List ℕ) → formed (node neg cs) ≡ true → 0 < length cs
-unfolding body-count child-words
+unfolding body-count child-words-in
 formed-neg cs e = omega (arith, eqb-true (length cs) 1 (formed-parts neg cs e .counted))
 
 -- lists, and `Neg`, have a child in a sound arena
@@ -44,7 +44,7 @@ module _ (table : ℕ) (a : Arena) (h : sound table a ≡ true) (n : ℕ) (l : n
 
 module _ (table n : ℕ) (few : n ≤ 4096) where
   pub list-well : (k : Polarity) (ms : List ℕ) → 0 < length ms → length ms ≤ 64 → below n ms ≡ true → well table n (node (members k) ms) ≡ true
-  unfolding child-words below linked rising
+  unfolding child-words-in below linked rising
   list-well k ms p q b =
       let F : Formed (members k) ms = record {
         counted = list-count k (length ms) ∙ both (le-leb 1 (length ms) p) (le-leb (length ms) 64 q);
@@ -56,6 +56,6 @@ module _ (table n : ℕ) (few : n ≤ 4096) where
       parts-well table n (node (members k) ms) (record { formed-so = parts-formed (members k) ms F; linked-so = both b refl; rising-so = refl })
 
 pub bound-well : (table n : ℕ) (k : Polarity) → well table n (node (bound k) []) ≡ true
-unfolding well body-count child-words
+unfolding well-in body-count child-words-in
 bound-well table n positive = refl
 bound-well table n negative = refl

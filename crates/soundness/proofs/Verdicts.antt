@@ -19,7 +19,10 @@ use Rattle.names.specs.Table.{Name, names-of}
 use Rattle.names.specs.Reply.{table-reply, table-out}
 use Rattle.names.specs.declared.Table.{Table}
 use Rattle.names.specs.declared.Table.the-variants as table
+use Rattle.names.specs.Inner.{Listable}
 use Rattle.names.proofs.Replies.{counted, faulty}
+use Rattle.names.proofs.Tables.{names-of-is}
+use Rattle.names.proofs.Places.{table-listable}
 use Rattle.node_store.specs.Inner.Stored.{Lent}
 use Rattle.soundness.specs.Inner.Sound.{is-some, is-sound, lent-reply, judged-out}
 use Rattle.soundness.specs.declared.Judged.{Judged}
@@ -123,6 +126,9 @@ module _ (t w s : List ℕ) (c : Counters) {r : Judged} (e : judged-out r ≡ le
   module _ {n : ℕ} (p : r ≡ verdict.Names n) where
     pub lent-known : Lent w s c
     lent-known = let L = lent-names p in record { table = n; view = L .view; holds = L .holds }
+
+    pub lent-listable : Listable t
+    lent-listable = let L = lent-names p in table-listable (names-of-is t (L .names) (L .is))
 
     -- what is answered of every arena that memory holds is the call's answer
     pub lent-done : {A : Type 0} (f : Arena → Out A) {o : Out A} → ((k : ℕ) (a : Arena) → Holds k w s c a → o ≡ f a)

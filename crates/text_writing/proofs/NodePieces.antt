@@ -16,7 +16,7 @@ use Rattle.primitive.specs.Primitive.{primitive-text}
 use Rattle.types.specs.Parens.{parens-in-union-member, parens-in-intersection-member, parens-in-lambda-param, parens-in-neg}
 use Rattle.types.specs.Kind as kinds
 use Rattle.types.specs.Kind.{Kind, disc}
-use Rattle.types.specs.Node.{positive, negative, primitive, list, lambda, attrset, named, Tag, members, bound, var, neg, form, tag, kind, field-of, tag-of, encode, guess}
+use Rattle.types.specs.Node.{positive, negative, primitive, list, lambda, attrset, named, Tag, members, bound, var, neg, form, tag, kind, field-of, tag-of, tag-of-in, encode-in, guess}
 use Rattle.types.specs.Fault.{children-in}
 use Rattle.types.specs.declared.short_text.ShortText.{ShortText}
 use Rattle.types.proofs.Shorts.{text-short}
@@ -71,7 +71,7 @@ module _ (k : Kind) (ws : List ℕ) {n : ℕ} (p : n ≡ head-kind (getD ws 0 0)
 
 -- ---- head and body
 pub head-there : {ws : List ℕ} → IsFormed ws → 0 < length ws
-unfolding encode
+unfolding encode-in
 head-there F = rw (F .words) (omega arith)
 
 -- ---- the texts that a body's first word says
@@ -80,15 +80,15 @@ first-of ws p = p ∙ ap (λ (d : List ℕ). getD d 0 0) (body-lent ws)
 
 module _ (ws : List ℕ) {n : ℕ} (p : n ≡ head-kind (getD ws 0 0)) {x : ℕ} (w : x ≡ getD (take (length ws - 1) (drop 1 ws)) 0 0) {b : List ℕ} {c : ℕ} {b′ : List ℕ} {e : ℕ} where
   pub begins-primitive : n ≡ 2 → (sp : Spelling) (ns : List Name) {t : ShortText} → t ≡ short-text (primitive-text x) → Writes b c (text t) b′ e → Writes b c (beginning sp ns (tag (guess ws))) b′ e
-  unfolding beginning tag-of
+  unfolding beginning tag-of-in
   begins-primitive q sp ns r W = begins kinds.primitive ws p q sp ns (writes-as (short-is (primitive-text x) r ∙ ap primitive-text (first-of ws w)) W)
 
   pub begins-var : n ≡ 3 → (sp : Spelling) (ns : List Name) {t : ShortText} → t ≡ short-text (tyvar-name x) → Writes b c (text t) b′ e → Writes b c (beginning sp ns (tag (guess ws))) b′ e
-  unfolding beginning tag-of
+  unfolding beginning tag-of-in
   begins-var q sp ns r W = begins kinds.ty-var ws p q sp ns (writes-as (short-is (tyvar-name x) r ∙ ap tyvar-name (first-of ws w)) W)
 
   pub begins-name : n ≡ 9 → (sp : Spelling) (t : List ℕ) → Writes b c (spelled sp (name-text t (field-name x))) b′ e → Writes b c (beginning sp (split t) (tag (guess ws))) b′ e
-  unfolding beginning tag-of name-text
+  unfolding beginning tag-of-in name-text
   begins-name q sp t W = begins kinds.named ws p q sp (split t) (writes-as (ap (λ (y : ℕ). spelled sp (name-text t (field-name y))) (first-of ws w)) W)
 
 -- ---- the kinds that have no such piece
@@ -177,25 +177,25 @@ module _ {ws : List ℕ} (F : IsFormed ws) {n : ℕ} (p : n ≡ head-kind (getD 
   shown-all f D = as-many D ∙ ap length (sym (all-shown (tag (guess ws)) (children-in ws) (kind-said F p) f))
 
 pub shown-none : (ws : List ℕ) {n : ℕ} → n ≡ head-kind (getD ws 0 0) → n ≡ 9 → 0 ≡ length (shown (tag (guess ws)) (children-in ws))
-unfolding shown tag-of
+unfolding shown tag-of-in
 shown-none ws p q = ap (λ (t : Tag). length (shown t (children-in ws))) (sym (tag-said kinds.named ws p q))
 
 -- ---- parentheses
 module _ (ws : List ℕ) {n : ℕ} (p : n ≡ head-kind (getD ws 0 0)) (i k : ℕ) {r : Bool} where
   pub parens-union : n ≡ 7 → r ≡ parens-in-union-member k → r ≡ parens (tag (guess ws)) i k
-  unfolding parens tag-of
+  unfolding parens tag-of-in
   parens-union q e = e ∙ ap (λ (t : Tag). parens t i k) (sym (tag-said kinds.union ws p q))
 
   pub parens-intersection : n ≡ 8 → r ≡ parens-in-intersection-member k → r ≡ parens (tag (guess ws)) i k
-  unfolding parens tag-of
+  unfolding parens tag-of-in
   parens-intersection q e = e ∙ ap (λ (t : Tag). parens t i k) (sym (tag-said kinds.intersection ws p q))
 
   pub parens-negation : n ≡ 10 → r ≡ parens-in-neg k → r ≡ parens (tag (guess ws)) i k
-  unfolding parens tag-of
+  unfolding parens tag-of-in
   parens-negation q e = e ∙ ap (λ (t : Tag). parens t i k) (sym (tag-said kinds.neg ws p q))
 
   pub parens-param : n ≡ 5 → i ≡ 0 → r ≡ parens-in-lambda-param k → r ≡ parens (tag (guess ws)) i k
-  unfolding parens tag-of
+  unfolding parens tag-of-in
   parens-param q z e = e ∙ (λ j. parens (form lambda) (sym z j) k) ∙ ap (λ (t : Tag). parens t i k) (sym (tag-said kinds.lambda ws p q))
 
 no-parens : (t : Tag) (i k : ℕ) {n : ℕ} → n ≡ disc (kind t) → (n ≡ 7 → ⊥) → (n ≡ 8 → ⊥) → (n ≡ 10 → ⊥) → (n ≡ 5 → i ≡ 0 → ⊥) → false ≡ parens t i k
@@ -242,14 +242,14 @@ module _ (h : ℕ) (d : List ℕ) {m : ℕ} (f : m ≡ length d - bit (head-dyna
 
   module _ (sp : Spelling) (ns : List Name) {b : List ℕ} {c : ℕ} {b′ : List ℕ} {e : ℕ} where
     pub labels-field : i < m → Writes b c (field-text sp ns (field-optional (getD d i 0)) (field-name (getD d i 0))) b′ e → Writes b c (label sp ns (tag-of kinds.attr-set (head-open h) (head-dynamic h) d) i) b′ e
-    unfolding label tag-of
+    unfolding label tag-of-in
     labels-field l W =
         let k : i < length d - bit (head-dynamic h) = omega (arith, f, l) in
         let r : getD d i 0 ≡ getD (take (length d - bit (head-dynamic h)) d) i 0 = sym (getD-take (length d - bit (head-dynamic h)) d i 0 k) in
         writes-as (ap (λ (y : ℕ). field-text sp ns (field-optional y) (field-name y)) r ∙ label-in sp ns (take (length d - bit (head-dynamic h)) d) i (omega (arith, many-fields, k))) W
 
     pub labels-dynamic : m ≤ i → Writes b c (bytes "_: ") b′ e → Writes b c (label sp ns (tag-of kinds.attr-set (head-open h) (head-dynamic h) d) i) b′ e
-    unfolding label tag-of
+    unfolding label tag-of-in
     labels-dynamic l W = writes-as (label-out sp ns (take (length d - bit (head-dynamic h)) d) i (omega (arith, many-fields, f, l))) W
 
 pub labels-set : (ws : List ℕ) {n : ℕ} → n ≡ head-kind (getD ws 0 0) → n ≡ 6 → (sp : Spelling) (ns : List Name) (i : ℕ) {b : List ℕ} {c : ℕ} {b′ : List ℕ} {e : ℕ}
@@ -279,5 +279,5 @@ module _ (h : ℕ) {o : Bool} (p : o ≡ head-open h) (m : ℕ) {b : List ℕ} {
 
 pub ends-set : (ws : List ℕ) {n : ℕ} → n ≡ head-kind (getD ws 0 0) → n ≡ 6 → {d : List ℕ} → ChildWords ws d → {b : List ℕ} {c : ℕ} {b′ : List ℕ} {e : ℕ}
     → Writes b c (set-ending (head-open (getD ws 0 0)) (length d)) b′ e → Writes b c (ending (tag (guess ws)) (length (children-in ws))) b′ e
-unfolding ending tag-of
+unfolding ending tag-of-in
 ends-set ws p q D W = ends kinds.attr-set ws p q (length (children-in ws)) (writes-as (ap (set-ending (head-open (getD ws 0 0))) (as-many D)) W)

@@ -6,9 +6,10 @@ use mathlib.Core.Option.{Option}
 use native.Mathlib.Omega.{arith}
 use lib.ListN.{getD, drop}
 use Rattle.words.specs.Words.{head-kind, head-open, head-dynamic}
+use Rattle.words.specs.declared.Layout.the-variants as layout
 use Rattle.types.specs.Kind as kinds
 use Rattle.types.specs.Kind.{Kind, disc, kind-of}
-use Rattle.types.specs.Node.{Tag, Node, tag, kind, tag-of, guess-kind, guess}
+use Rattle.types.specs.Node.{Tag, Node, tag, kind, tag-of, tag-of-in, guess-kind-in, guess, guess-in}
 use Rattle.types.proofs.KindNumbers.{kind-of-disc}
 use Rattle.types.proofs.Nodes.{guess-encode}
 use Rattle.node_reading.proofs.NodeReads.{kind-encode}
@@ -19,7 +20,7 @@ abbrev pub said : Kind → List ℕ → Tag
 said k ws = tag-of k (head-open (getD ws 0 0)) (head-dynamic (getD ws 0 0)) (drop 1 ws)
 
 no-words : (k : Kind) → disc k ≡ 0 → tag (guess []) ≡ said k []
-unfolding guess tag-of
+unfolding guess-in tag-of-in
 no-words kinds.bottom e = refl
 no-words kinds.top e = absurd (omega arith)
 no-words kinds.primitive e = absurd (omega arith)
@@ -33,12 +34,12 @@ no-words kinds.named e = absurd (omega arith)
 no-words kinds.neg e = absurd (omega arith)
 
 pub tag-said : (k : Kind) (ws : List ℕ) {n : ℕ} → n ≡ head-kind (getD ws 0 0) → n ≡ disc k → tag (guess ws) ≡ said k ws
-unfolding guess head-kind
+unfolding guess-in head-kind
 tag-said k ws e q = go ws (sym e ∙ q)
   where
     go : (ws : List ℕ) → head-kind (getD ws 0 0) ≡ disc k → tag (guess ws) ≡ said k ws
     go [] p = no-words k (sym p)
-    go (h ∷ b) p = ap (λ (o : Option Kind). tag (guess-kind o (head-open h) (head-dynamic h) b)) (ap kind-of p ∙ kind-of-disc k)
+    go (h ∷ b) p = ap (λ (o : Option Kind). tag (guess-kind-in layout.New o (head-open h) (head-dynamic h) b)) (ap kind-of p ∙ kind-of-disc k)
 
 module _ {ws : List ℕ} (F : IsFormed ws) where
   pub formed-guess : guess ws ≡ F .view

@@ -9,6 +9,7 @@ use spelling::Spelling;
 use types::Counters;
 use types::arc_ty::child;
 use types::arc_ty::wide;
+ghost use Rattle.names.specs.Inner.{Places};
 ghost use Rattle.text_writing.specs.Inner.Children.{ChildOf, IsChild, Encloses, Opens, Closes};
 
 // The number of child i of node n.
@@ -32,6 +33,7 @@ fn enclosed(words: &[u32], starts: &[u32], c: Counters, n: u32, i: usize) -> boo
 // Writes what stands before it.
 pub fn open_child(
     table: &[u8],
+    places: &[u32; 4096],
     spelling: Spelling,
     words: &[u32],
     starts: &[u32],
@@ -42,12 +44,13 @@ pub fn open_child(
     count: usize,
 ) -> usize
     requires { ⌜ ChildOf (now words) (now starts) c n i ⌝ }
+    requires { ⌜ Places (now table) (now places) ⌝ }
     ensures { λ r. ⌜ Opens spelling (now (table .entry)) (now (words .entry)) (now (starts .entry)) c n i (now (text .entry)) count
         (now (text .exit)) r ⌝ }
 {
     let inside = enclosed(words, starts, c, n, i);
     let node = node_at(words, starts, c, wide(n));
-    write_before(table, spelling, node, i, inside, text, count)
+    write_before(table, places, spelling, node, i, inside, text, count)
 }
 
 // Writes what stands behind it.

@@ -26,6 +26,7 @@ ghost use Rattle.types.specs.Kind.{attr-set};
 ghost use Rattle.types.specs.Node.{tag, tag-of, guess};
 ghost use Rattle.types.specs.Fault.{children-in};
 ghost use Rattle.names.specs.Table.{split, name-text};
+ghost use Rattle.names.specs.Inner.{Places};
 ghost use Rattle.spelling.specs.Spelling.{spelled};
 ghost use Rattle.appending.specs.Parts.{between};
 ghost use Rattle.appending.specs.Inner.{Writes};
@@ -54,22 +55,37 @@ pub fn write_short(text: &mut [u8], count: usize, short: ShortText) -> usize
 }
 
 // The name that a field word carries.
-fn write_name(table: &[u8], spelling: Spelling, word: u32, text: &mut [u8], count: usize) -> usize
+fn write_name(
+    table: &[u8],
+    places: &[u32; 4096],
+    spelling: Spelling,
+    word: u32,
+    text: &mut [u8],
+    count: usize,
+) -> usize
+    requires { ⌜ Places (now table) (now places) ⌝ }
     ensures { λ r. ⌜ Writes (now (text .entry)) count (spelled spelling (name-text (now (table .entry)) (field-name word)))
         (now (text .exit)) r ⌝ }
 {
-    write_spelled(spelling, name_at(table, field_name(word)), text, count)
+    write_spelled(
+        spelling,
+        name_at(table, places, field_name(word)),
+        text,
+        count,
+    )
 }
 
 // What begins a node's text.
 pub fn write_beginning(
     table: &[u8],
+    places: &[u32; 4096],
     spelling: Spelling,
     node: &[u32],
     text: &mut [u8],
     count: usize,
 ) -> usize
     requires { ⌜ IsFormed (now node) ⌝ }
+    requires { ⌜ Places (now table) (now places) ⌝ }
     ensures { λ r. ⌜ Writes (now (text .entry)) count (beginning spelling (split (now (table .entry))) (tag (guess (now (node .entry)))))
         (now (text .exit)) r ⌝ }
 {
@@ -97,7 +113,7 @@ pub fn write_beginning(
         return append(text, count, b"{ ");
     }
     if kind == Head::NAMED {
-        return write_name(table, spelling, first_word(body), text, count);
+        return write_name(table, places, spelling, first_word(body), text, count);
     }
     if kind == Head::NEG {
         return append(text, count, b"~");
@@ -140,11 +156,19 @@ fn field_count(head: Head, body: &[u32]) -> usize
 }
 
 // The name in a field word, with what stands between it and the field's type.
-fn write_field(table: &[u8], spelling: Spelling, word: u32, text: &mut [u8], count: usize) -> usize
+fn write_field(
+    table: &[u8],
+    places: &[u32; 4096],
+    spelling: Spelling,
+    word: u32,
+    text: &mut [u8],
+    count: usize,
+) -> usize
+    requires { ⌜ Places (now table) (now places) ⌝ }
     ensures { λ r. ⌜ Writes (now (text .entry)) count
         (field-text spelling (split (now (table .entry))) (field-optional word) (field-name word)) (now (text .exit)) r ⌝ }
 {
-    let named = write_name(table, spelling, word, text, count);
+    let named = write_name(table, places, spelling, word, text, count);
     let marked = append_if(text, named, field_optional(word), b"?");
     append(text, marked, b": ")
 }
@@ -152,6 +176,7 @@ fn write_field(table: &[u8], spelling: Spelling, word: u32, text: &mut [u8], cou
 // What names child i of a set.
 fn write_set_label(
     table: &[u8],
+    places: &[u32; 4096],
     spelling: Spelling,
     head: Head,
     body: &[u32],
@@ -159,11 +184,12 @@ fn write_set_label(
     text: &mut [u8],
     count: usize,
 ) -> usize
+    requires { ⌜ Places (now table) (now places) ⌝ }
     ensures { λ r. ⌜ Writes (now (text .entry)) count (label spelling (split (now (table .entry)))
         (tag-of attr-set (head-open (head .word)) (head-dynamic (head .word)) (now (body .entry))) i) (now (text .exit)) r ⌝ }
 {
     if i < field_count(head, body) {
-        return write_field(table, spelling, body[i], text, count);
+        return write_field(table, places, spelling, body[i], text, count);
     }
     append(text, count, b"_: ")
 }
@@ -171,6 +197,7 @@ fn write_set_label(
 // What names child i.
 fn write_label(
     table: &[u8],
+    places: &[u32; 4096],
     spelling: Spelling,
     node: &[u32],
     i: usize,
@@ -178,12 +205,13 @@ fn write_label(
     count: usize,
 ) -> usize
     requires { ⌜ IsFormed (now node) ⌝ }
+    requires { ⌜ Places (now table) (now places) ⌝ }
     ensures { λ r. ⌜ Writes (now (text .entry)) count (label spelling (split (now (table .entry))) (tag (guess (now (node .entry)))) i)
         (now (text .exit)) r ⌝ }
 {
     if kind_in(node) == Head::ATTR_SET {
         let head = Head { word: node[0] };
-        return write_set_label(table, spelling, head, &node[1..], i, text, count);
+        return write_set_label(table, places, spelling, head, &node[1..], i, text, count);
     }
     count
 }
@@ -214,6 +242,7 @@ pub fn in_parens(node: &[u32], i: usize, kind: u32) -> bool
 // What stands before child i, which stands in parentheses or not.
 pub fn write_before(
     table: &[u8],
+    places: &[u32; 4096],
     spelling: Spelling,
     node: &[u32],
     i: usize,
@@ -222,11 +251,12 @@ pub fn write_before(
     count: usize,
 ) -> usize
     requires { ⌜ IsFormed (now node) ⌝ }
+    requires { ⌜ Places (now table) (now places) ⌝ }
     ensures { λ r. ⌜ Writes (now (text .entry)) count
         (before spelling (split (now (table .entry))) (tag (guess (now (node .entry)))) i inside) (now (text .exit)) r ⌝ }
 {
     let separated = write_separator(node, i, text, count);
-    let labelled = write_label(table, spelling, node, i, text, separated);
+    let labelled = write_label(table, places, spelling, node, i, text, separated);
     append_if(text, labelled, inside, b"(")
 }
 

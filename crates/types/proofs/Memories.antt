@@ -10,7 +10,7 @@ use lib.Seq.{take-at, drop-at}
 use lib.Dec.{eqb, leb}
 use borrow.Author.Tests.{eq-eqb, eqb-true, le-leb, leb-true}
 use Rattle.types.specs.Same.{same-numbers}
-use Rattle.types.specs.Node.{Node, encode, guess, formed}
+use Rattle.types.specs.Node.{Node, encode, encode-in, guess, formed}
 use Rattle.types.specs.Arena.{Arena, sound}
 use Rattle.types.specs.Memory.{flat, words-of, starts-of, Holds, holds, span, read, arena-of}
 use Rattle.types.specs.Theorems.{UniqueArena, ArenaOfHolds, HoldsArenaOf, Unsound}
@@ -22,7 +22,7 @@ use Rattle.types.proofs.Sound.{sound-well, sound-tail}
 
 -- ---- nodes read back from their words
 pub span-encode : (x : Node) → formed x ≡ true → (rest : List ℕ) → span (encode x ++ rest) ≡ length (encode x)
-unfolding encode
+unfolding encode-in
 span-encode x e rest = ap suc (encode-count x e)
 
 read-one : (x : Node) (s : Arena) (k : ℕ) (rest : List ℕ) → formed x ≡ true → read (suc k) (encode x ++ rest) s ≡ read k rest (x ∷ s)

@@ -6,7 +6,7 @@ use mathlib.Core.Option.{Option, none, some}
 use lib.ListN.{length}
 use lib.Dec.{eqb}
 use Rattle.types.specs.Same.{same}
-use Rattle.types.specs.Node.{Node, node, Tag, bound, positive, tag, children, node-dec, well}
+use Rattle.types.specs.Node.{Node, node, Tag, bound, positive, tag, children, node-dec, well, well-in}
 
 -- the newest node first
 abbrev pub Arena : Type 0
@@ -42,7 +42,7 @@ absent (some n) = false
 
 -- each node is well formed with children of lower number and names of the table, and no two are equal (01, "Words of the arena")
 unfoldable pub sound : ℕ → Arena → Bool
-unfolding find well
+unfolding find well-in
 sound table [] = true
 sound table (x ∷ s) = well table (length s) x && (absent (find x s) && sound table s)
 

@@ -6,8 +6,10 @@ use mathlib.Core.List.{List, [], _∷_, map}
 use mathlib.Core.Option.{Option, none, some}
 use lib.ListN.{length, getD, take, drop}
 use lib.Dec.{eqb, ltb}
-use Rattle.words.specs.Words.{bit, head-kind, head-open, head-dynamic, head-zero, head-count, field-optional, field-name, field-zero}
-use Rattle.words.specs.Words.{child-zero}
+use Rattle.words.specs.Words.{bit, head-kind, head-open, head-dynamic, head-zero, head-count, field-optional, field-name-in}
+use Rattle.words.specs.Words.{field-name, old-field-name, field-zero-in, field-zero, old-field-zero, child-zero}
+use Rattle.words.specs.declared.Layout.{Layout}
+use Rattle.words.specs.declared.Layout.the-variants as layout
 use Rattle.types.specs.Kind.{Kind, kind-of, body-count, Body, empty, code, number, children, fields, name, body-of}
 use Rattle.types.specs.Node.{below, rising, children-of}
 
@@ -63,29 +65,35 @@ each-zero f [] = true
 each-zero f (w ∷ ws) = eqb (f w) 0 && each-zero f ws
 
 -- a body's own faults, under a head that fits
-unfoldable pub body-fits : Body → Bool → List ℕ → Bool
-unfolding each-zero field-zero child-zero field-optional
-body-fits s d b = own-fits s b && (each-zero field-zero (field-part s d b) && each-zero child-zero (child-part s d b))
+unfoldable pub body-fits-in : Layout → Body → Bool → List ℕ → Bool
+unfolding each-zero field-zero old-field-zero child-zero field-optional
+body-fits-in l s d b = own-fits s b && (each-zero (field-zero-in l) (field-part s d b) && each-zero child-zero (child-part s d b))
+
+abbrev pub body-fits : Body → Bool → List ℕ → Bool
+body-fits = body-fits-in layout.New
 
 -- the same of a head's kind, where there is one
-abbrev pub kind-body-fits : Option Kind → Bool → List ℕ → Bool
-kind-body-fits none d b = false
-kind-body-fits (some k) d b = body-fits (body-of k) d b
+abbrev pub kind-body-fits-in : Layout → Option Kind → Bool → List ℕ → Bool
+kind-body-fits-in l none d b = false
+kind-body-fits-in l (some k) d b = body-fits-in l (body-of k) d b
 
 -- words without a fault of number 3: there is a head, it fits, it counts the words that follow, and they fit
-unfoldable pub fits : List ℕ → Bool
-unfolding head-fits body-fits head-count head-kind head-dynamic kind-of
-fits [] = false
-fits (h ∷ b) = head-fits h && (eqb (length b) (head-count h) && kind-body-fits (kind-of (head-kind h)) (head-dynamic h) b)
+unfoldable pub fits-in : Layout → List ℕ → Bool
+unfolding head-fits body-fits-in head-count head-kind head-dynamic kind-of
+fits-in l [] = false
+fits-in l (h ∷ b) = head-fits h && (eqb (length b) (head-count h) && kind-body-fits-in l (kind-of (head-kind h)) (head-dynamic h) b)
+
+abbrev pub fits : List ℕ → Bool
+fits = fits-in layout.New
 
 -- the children, and the numbers of the names, in a body under a head of this kind
 abbrev pub kind-children : Option Kind → List ℕ → List ℕ
 kind-children none b = []
 kind-children (some k) b = children-of (body-of k) b
 
-abbrev pub kind-names : Option Kind → Bool → List ℕ → List ℕ
-kind-names none d b = []
-kind-names (some k) d b = map field-name (field-part (body-of k) d b)
+abbrev pub kind-names-in : Layout → Option Kind → Bool → List ℕ → List ℕ
+kind-names-in l none d b = []
+kind-names-in l (some k) d b = map (field-name-in l) (field-part (body-of k) d b)
 
 -- the children and the names that a node's words hold
 unfoldable pub children-in : List ℕ → List ℕ
@@ -93,10 +101,13 @@ unfolding head-kind kind-of children-of
 children-in [] = []
 children-in (h ∷ b) = kind-children (kind-of (head-kind h)) b
 
-unfoldable pub names-in : List ℕ → List ℕ
-unfolding head-kind head-dynamic kind-of field-name
-names-in [] = []
-names-in (h ∷ b) = kind-names (kind-of (head-kind h)) (head-dynamic h) b
+unfoldable pub words-names-in : Layout → List ℕ → List ℕ
+unfolding head-kind head-dynamic kind-of field-name old-field-name
+words-names-in l [] = []
+words-names-in l (h ∷ b) = kind-names-in l (kind-of (head-kind h)) (head-dynamic h) b
+
+abbrev pub words-names : List ℕ → List ℕ
+words-names = words-names-in layout.New
 
 -- the number of the first test that fails, 0 where none does: do the words fit, are their children and names there, do the names rise?
 abbrev pub first : Bool → Bool → Bool → ℕ
@@ -106,6 +117,10 @@ first true true false = 5
 first true true true = 0
 
 -- the first number that is true of a node's words, 0 where none is (01, "Who can cause which number")
-unfoldable pub fault : ℕ → ℕ → List ℕ → ℕ
-unfolding fits below rising children-in names-in
-fault table nodes ws = first (fits ws) (below nodes (children-in ws) && below table (names-in ws)) (rising (names-in ws))
+unfoldable pub fault-in : Layout → ℕ → ℕ → List ℕ → ℕ
+unfolding fits-in below rising children-in words-names-in
+fault-in l table nodes ws =
+    first (fits-in l ws) (below nodes (children-in ws) && below table (words-names-in l ws)) (rising (words-names-in l ws))
+
+abbrev pub fault : ℕ → ℕ → List ℕ → ℕ
+fault = fault-in layout.New

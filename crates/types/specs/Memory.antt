@@ -7,16 +7,23 @@ use mathlib.Core.Option.{Option, none, some}
 use lib.ListN.{length, getD, take, drop, replicate}
 use lib.Dec.{eqb, leb}
 use Rattle.words.specs.Words.{head-count}
+use Rattle.words.specs.declared.Layout.{Layout}
+use Rattle.words.specs.declared.Layout.the-variants as layout
 use Rattle.types.specs.Same.{same-numbers}
-use Rattle.types.specs.Node.{encode, guess}
+use Rattle.types.specs.Node.{encode-in, guess, guess-in}
 use Rattle.types.specs.Arena.{Arena, sound}
 use Rattle.types.specs.declared.Counters.{Counters}
 
--- the nodes' words, one node after another without gap, from node 0 on
+-- the nodes' words in a layout, one node after another without gap, from node 0 on
+unfoldable pub flat-in : Layout → Arena → List ℕ
+unfolding encode-in
+flat-in l [] = []
+flat-in l (x ∷ s) = flat-in l s ++ encode-in l x
+
+-- in today's
 unfoldable pub flat : Arena → List ℕ
-unfolding encode
-flat [] = []
-flat (x ∷ s) = flat s ++ encode x
+unfolding flat-in
+flat = flat-in layout.New
 
 -- the place of each head
 unfoldable pub heads : Arena → List ℕ
@@ -62,7 +69,7 @@ span ws = suc (head-count (getD ws 0 0))
 
 -- the arena a and k nodes more, whose words stand first in ws
 unfoldable pub read : ℕ → List ℕ → Arena → Arena
-unfolding guess head-count
+unfolding guess-in head-count
 read zero ws a = a
 read (suc k) ws a = read k (drop (span ws) ws) (guess (take (span ws) ws) ∷ a)
 

@@ -5,13 +5,14 @@ use mathlib.Core.Bool.{true, false}
 use mathlib.Core.List.{List, [], _∷_, _++_, map}
 use mathlib.Core.Option.{none, some}
 use lib.ListN.{length, getD}
+use Rattle.words.specs.declared.Layout.{Layout}
 use Rattle.types.specs.Order.{order, lexicographic, by, then-by, TotalOrder}
 use Rattle.types.specs.Out.{ok, refuse, number}
 use Rattle.types.specs.Decimal.{digit, decimal}
 use Rattle.types.specs.Kind.{Kind, disc, kind-of}
-use Rattle.types.specs.Node.{Polarity, Tag, Node, tag, children, names, encode, below, formed, linked, rising, guess, is-words}
-use Rattle.types.specs.Node.{decode, IsNode}
-use Rattle.types.specs.Fault.{fits, children-in, fault}
+use Rattle.types.specs.Node.{Polarity, Tag, Node, tag, children, names, encode-in, below, formed-in, linked, rising, guess-in}
+use Rattle.types.specs.Node.{is-words-in, decode-in, IsNodeIn}
+use Rattle.types.specs.Fault.{fits-in, children-in, fault-in}
 use Rattle.types.specs.Arena.{Arena, at, rec, fold, find, sound, Ext}
 use Rattle.types.specs.Places.{Place}
 use Rattle.types.specs.Memory.{Holds, arena-of}
@@ -56,45 +57,46 @@ abbrev pub DiscKindOf : Type 0
 DiscKindOf = (n : ℕ) (k : Kind) → kind-of n ≡ some k → n ≡ disc k
 
 -- the words of a formed node give the node back
-abbrev pub GuessEncode : Type 0
-GuessEncode = (x : Node) → formed x ≡ true → guess (encode x) ≡ x
+abbrev pub GuessEncode : Layout → Type 0
+GuessEncode l = (x : Node) → formed-in l x ≡ true → guess-in l (encode-in l x) ≡ x
 
 -- the children that they hold are the node's
-abbrev pub ChildrenEncode : Type 0
-ChildrenEncode = (x : Node) → formed x ≡ true → children-in (encode x) ≡ children x
+abbrev pub ChildrenEncode : Layout → Type 0
+ChildrenEncode l = (x : Node) → formed-in l x ≡ true → children-in (encode-in l x) ≡ children x
 
 -- `decode` gives a node that may stand there from its words
-abbrev pub DecodeOk : Type 0
-DecodeOk = (table nodes : ℕ) (ws : List ℕ) (x : Node) → IsNode table nodes ws x → decode table nodes ws ≡ ok x
+abbrev pub DecodeOk : Layout → Type 0
+DecodeOk l = (table nodes : ℕ) (ws : List ℕ) (x : Node) → IsNodeIn l table nodes ws x → decode-in l table nodes ws ≡ ok x
 
 -- and it gives no other
-abbrev pub OkDecode : Type 0
-OkDecode = (table nodes : ℕ) (ws : List ℕ) (x : Node) → decode table nodes ws ≡ ok x → IsNode table nodes ws x
+abbrev pub OkDecode : Layout → Type 0
+OkDecode l = (table nodes : ℕ) (ws : List ℕ) (x : Node) → decode-in l table nodes ws ≡ ok x → IsNodeIn l table nodes ws x
 
 -- else it refuses by the first of 3, 4 and 5 that is true (01, "Who can cause which number"): no formed node has these words
-abbrev pub DecodeThree : Type 0
-DecodeThree =
-    (table nodes : ℕ) (ws : List ℕ) → ((x : Node) → formed x ≡ true → ws ≡ encode x → ⊥) → decode table nodes ws ≡ refuse 3
+abbrev pub DecodeThree : Layout → Type 0
+DecodeThree l =
+    (table nodes : ℕ) (ws : List ℕ) → ((x : Node) → formed-in l x ≡ true → ws ≡ encode-in l x → ⊥) → decode-in l table nodes ws ≡ refuse 3
 
 -- one has, but a child or a name isn't there
-abbrev pub DecodeFour : Type 0
-DecodeFour =
-    (table nodes : ℕ) (ws : List ℕ) (x : Node) → formed x ≡ true → ws ≡ encode x → linked table nodes x ≡ false
-    → decode table nodes ws ≡ refuse 4
+abbrev pub DecodeFour : Layout → Type 0
+DecodeFour l =
+    (table nodes : ℕ) (ws : List ℕ) (x : Node) → formed-in l x ≡ true → ws ≡ encode-in l x → linked table nodes x ≡ false
+    → decode-in l table nodes ws ≡ refuse 4
 
 -- all are there, but the names don't rise
-abbrev pub DecodeFive : Type 0
-DecodeFive =
-    (table nodes : ℕ) (ws : List ℕ) (x : Node) → formed x ≡ true → ws ≡ encode x → linked table nodes x ≡ true
-    → rising (names (tag x)) ≡ false → decode table nodes ws ≡ refuse 5
+abbrev pub DecodeFive : Layout → Type 0
+DecodeFive l =
+    (table nodes : ℕ) (ws : List ℕ) (x : Node) → formed-in l x ≡ true → ws ≡ encode-in l x → linked table nodes x ≡ true
+    → rising (names (tag x)) ≡ false → decode-in l table nodes ws ≡ refuse 5
 
 -- the sentences on number 3, read off field by field, are what `decode` asks, for words of 32 bits
-abbrev pub FitsWords : Type 0
-FitsWords = (ws : List ℕ) → below (2 ^ 32) ws ≡ true → is-words ws (guess ws) ≡ fits ws
+abbrev pub FitsWords : Layout → Type 0
+FitsWords l = (ws : List ℕ) → below (2 ^ 32) ws ≡ true → is-words-in l ws (guess-in l ws) ≡ fits-in l ws
 
 -- so are those on 3, 4 and 5 together: `fault` is `decode`'s number, 0 for none
-abbrev pub FaultDecode : Type 0
-FaultDecode = (table nodes : ℕ) (ws : List ℕ) → below (2 ^ 32) ws ≡ true → number (decode table nodes ws) ≡ fault table nodes ws
+abbrev pub FaultDecode : Layout → Type 0
+FaultDecode l =
+    (table nodes : ℕ) (ws : List ℕ) → below (2 ^ 32) ws ≡ true → number (decode-in l table nodes ws) ≡ fault-in l table nodes ws
 
 -- ---- arenas
 -- in an arena a that grew from b the old numbers have the same nodes

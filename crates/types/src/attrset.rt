@@ -3,3 +3,4 @@ pub use words::attrset::field_name;
 pub use words::attrset::field_optional;
 pub use words::attrset::field_word;
 pub use words::attrset::field_zero;
+pub use words::attrset::renewed;

@@ -155,7 +155,7 @@ fn change_parts(
     }
     let held = change_lent(
         op,
-        part(s, 3, h.table),
+        part(s, 5, h.table),
         &mut words[0..m],
         &mut starts[0..n],
         h.counters,

@@ -48,7 +48,7 @@ fn compact_host(
     d: Counters,
 ) -> Compacted {
     compact(
-        part(s, 3, h.table),
+        part(s, 5, h.table),
         first(words, h.words),
         first(starts, h.starts),
         h.counters,

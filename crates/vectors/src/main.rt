@@ -46,6 +46,7 @@ fn answer(
     match byte(s, 0) {
         8 => sheets::sheet(s, out, held),
         18 => copies::compaction(s, words, starts, more_words, more_starts, out, held),
+        24 => sheets::conversion(s, out, held),
         op => one_arena(op, s, words, starts, more_words, out, held),
     }
 }

@@ -16,7 +16,6 @@ use case_reading::numbers::add;
 use case_reading::numbers::byte;
 use case_reading::numbers::first;
 use case_reading::numbers::part;
-use case_reading::numbers::short;
 use case_reading::numbers::word;
 use free_vars::Answer;
 use free_vars::FreeVars;
@@ -65,11 +64,11 @@ fn checked(out: &mut Output, held: usize, r: Table) -> usize {
 
 // The check of a name table.
 fn table(s: &[u8], out: &mut Output, held: usize) -> Step {
-    let end = add(3, short(s, 1));
+    let end = add(5, wide(word(s, 1)));
     if s.len() < end {
         return Step::Cut;
     }
-    let held = checked(out, held, check_names(part(s, 3, end)));
+    let held = checked(out, held, check_names(part(s, 5, end)));
     done(end, out, held)
 }
 
@@ -86,12 +85,12 @@ fn placed(out: &mut Output, held: usize, r: Placed) -> usize {
 
 // Where the text of a name lies in its table.
 fn name_at(s: &[u8], out: &mut Output, held: usize) -> Step {
-    let next = add(3, short(s, 1));
+    let next = add(5, wide(word(s, 1)));
     let end = add(next, 4);
     if s.len() < end {
         return Step::Cut;
     }
-    let held = placed(out, held, name_stretch(part(s, 3, next), word(s, next)));
+    let held = placed(out, held, name_stretch(part(s, 5, next), word(s, next)));
     done(end, out, held)
 }
 
@@ -131,7 +130,7 @@ fn compared(out: &mut Output, held: usize, r: Compared) -> usize {
 // The call, on what was lent.
 fn compare_lent(s: &[u8], h: Host, words: &[u32], starts: &[u32]) -> Compared {
     arena::compare(
-        part(s, 3, h.table),
+        part(s, 5, h.table),
         first(words, h.words),
         first(starts, h.starts),
         h.counters,
@@ -253,7 +252,7 @@ fn on_type(
     }
     let held = ask(
         op,
-        part(s, 3, h.table),
+        part(s, 5, h.table),
         first(words, h.words),
         first(starts, h.starts),
         h.counters,

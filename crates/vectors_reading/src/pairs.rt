@@ -25,12 +25,12 @@ fn equal_lent(
     other_starts: &[u32],
 ) -> Asked {
     structurally_eq(
-        part(s, 3, h.table),
+        part(s, 5, h.table),
         first(words, h.words),
         first(starts, h.starts),
         h.counters,
         word(s, h.next),
-        part(rest, 3, g.table),
+        part(rest, 5, g.table),
         first(other_words, g.words),
         first(other_starts, g.starts),
         g.counters,

@@ -158,7 +158,7 @@ fn write_parts(
     fill(text, UNTOUCHED);
     let r = call(
         op,
-        part(s, 3, h.table),
+        part(s, 5, h.table),
         first(words, h.words),
         first(starts, h.starts),
         h.counters,

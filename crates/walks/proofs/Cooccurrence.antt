@@ -9,7 +9,7 @@ use lib.Dec.{ltb}
 use borrow.Author.Tests.{eqb-true, ltb-true}
 use Rattle.words.specs.Words.{bit}
 use Rattle.types.specs.Kind.{body-count}
-use Rattle.types.specs.Node.{Polarity, positive, negative, Field, field, Tag, members, bound, var, neg, form, primitive, list, lambda, attrset, named, Node, node, field-names, names, tag, children, child-words, formed, rising}
+use Rattle.types.specs.Node.{Polarity, positive, negative, Field, field, Tag, members, bound, var, neg, form, primitive, list, lambda, attrset, named, Node, node, field-names, names, tag, children, child-words, child-words-in, formed, rising}
 use Rattle.types.specs.Arena.{Arena, at, sound}
 use Rattle.types.specs.Places.{self}
 use Rattle.types.specs.Places as places
@@ -62,7 +62,7 @@ module _ (cs : List ℕ) {i j : ℕ} (l : i < length cs) (k : j < length cs) {π
   only h e = record { child = omega arith; rest = e }
 
   apart : (t : Tag) → Formed t cs → rising (names t) ≡ true → segments t i ++ π ≡ segments t j ++ ρ → Same i j π ρ
-  unfolding segments body-count child-words
+  unfolding segments body-count child-words-in
   apart (members s) F r e = record { child = cc; rest = cc }
   apart (bound positive) F r e = only (omega (arith, eqb-true (length cs) 0 (F .counted))) e
   apart (bound negative) F r e = only (omega (arith, eqb-true (length cs) 0 (F .counted))) e

@@ -9,7 +9,7 @@ use lib.ListN.{length}
 use lib.Dec.{eqb}
 use borrow.Author.Tests.{eqb-true}
 use Rattle.types.specs.Kind.{body-count}
-use Rattle.types.specs.Node.{Tag, var, Node, node, tag, children, child-words, below, formed, rising}
+use Rattle.types.specs.Node.{Tag, var, Node, node, tag, children, child-words-in, below, formed, formed-in, rising}
 use Rattle.types.specs.Arena.{Arena, at, find, sound}
 use Rattle.types.proofs.Nodes.{nil, Formed, formed-parts}
 use Rattle.types.proofs.Sound.{sound-well, sound-tail, at-find}
@@ -19,7 +19,7 @@ use Rattle.walks.specs.Theorems.{OneNode}
 
 -- each node is settled, and so is `never` past the end
 pub at-settled : (table : ℕ) (a : Arena) → sound table a ≡ true → (n : ℕ) → Settled (at a n)
-unfolding at formed rising body-count below
+unfolding at formed-in rising body-count below
 at-settled table [] h n = record { formed = refl; rising = refl }
 at-settled table (x ∷ s) h n = go (eqb n (length s)) (at-settled table s (sound-tail table x s h) n)
   where
@@ -28,7 +28,7 @@ at-settled table (x ∷ s) h n = go (eqb n (length s)) (at-settled table s (soun
     go false S = S
 
 pub no-child : (x : Node) {v : ℕ} → Settled x → tag x ≡ var v → length (children x) ≡ 0
-unfolding body-count child-words
+unfolding body-count child-words-in
 no-child (node t cs) S e =
     let F = subst (λ (u : Tag). Formed u cs) e (formed-parts t cs (S .formed)) in
     omega (arith, eqb-true (suc (length cs)) 1 (F .counted))

@@ -7,7 +7,7 @@ use mathlib.Core.Logic.{_⊎_, inl, inr}
 use native.Mathlib.Omega.{arith}
 use lib.ListN.{length, getD}
 use Rattle.words.specs.Words.{head-kind}
-use Rattle.types.specs.Node.{Polarity, tag, children, encode, formed}
+use Rattle.types.specs.Node.{Polarity, tag, children, encode, encode-in, formed}
 use Rattle.types.specs.Fault.{children-in}
 use Rattle.types.specs.Arena.{Arena, at}
 use Rattle.types.specs.Places.{child-sign}
@@ -29,7 +29,7 @@ module _ (a : Arena) (n : ℕ) (e : formed (at a n) ≡ true) (flag : Bool) wher
   kids = children-encode (at a n) e
 
   sign-is : (i : ℕ) → sign-of (flag-after flag (turned (head-kind (getD (encode (at a n)) 0 0)) i)) ≡ child-sign (tag (at a n)) i (sign-of flag)
-  unfolding encode
+  unfolding encode-in
   sign-is i = ap (λ (k : ℕ). sign-of (flag-after flag (turned k i))) (encode-kind (at a n) e) ∙ flag-sign (tag (at a n)) i flag
 
   to-words : {t : Polarity} {u : ℕ} → ChildOf a n (sign-of flag) t u → WordChild (encode (at a n)) flag (length (children-in (encode (at a n)))) t u

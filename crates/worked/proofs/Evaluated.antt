@@ -2,8 +2,8 @@
 use mathlib.Core.Path.{refl}
 use Rattle.types.specs.Tyvar.{tyvar-name}
 use Rattle.words.specs.Words.{head-word}
-use Rattle.types.specs.Node.{head-of, child-words, decode}
-use Rattle.types.specs.Fault.{fault}
+use Rattle.types.specs.Node.{head-of, child-words-in, decode-in}
+use Rattle.types.specs.Fault.{fault-in}
 use Rattle.types.specs.Arena.{sound}
 use Rattle.types.specs.Memory.{arena-of}
 use Rattle.spelling.specs.Spelling.{nix-name}
@@ -15,21 +15,21 @@ use Rattle.simplification.proofs.Evaluated.{worked-so as simplify-so}
 use Rattle.display.proofs.Evaluated.{worked-so as display-so}
 
 pub judged-so : JudgedSo
-unfolding decode fault head-of head-word child-words
+unfolding decode-in fault-in head-of head-word child-words-in
 judged-so = refl
 
 -- 01's words hold its arena, and with a second variable 0 in place of int they hold none
 pub sheet-held : SheetHeld
-unfolding arena-of head-of head-word child-words
+unfolding arena-of head-of head-word child-words-in
 sheet-held = refl
 
 pub repeat-refused : RepeatRefused
-unfolding arena-of head-of head-word child-words
+unfolding arena-of head-of head-word child-words-in
 repeat-refused = refl
 
 -- all starred types at once
 pub starred-so : Starred
-unfolding tyvar-name normalize-set-ops child-words sound has-shared-tyvar-across-lambda-params
+unfolding tyvar-name normalize-set-ops child-words-in sound has-shared-tyvar-across-lambda-params
 starred-so = record { variables = refl; simplifies = simplify-so; normalizes = refl; prints-so = display-so; shares = refl }
 
 pub spelled-so : SpelledSo

@@ -38,7 +38,7 @@ worked = prints 25 "z" ∷ prints 26 "a1" ∷ prints 4294967294 "u165191049" ∷
 abbrev judges : List ℕ → ℕ → Case
 judges ws n = record { gives = number (decode 2 3 ws) ∷ fault 2 3 ws ∷ []; says = n ∷ n ∷ [] }
 
--- what 01 says of a node's words ("Words of the arena"), a sentence at a time
+-- what 01 says of a node's words ("Words of the arena"; a field word: 02, A2), a sentence at a time
 abbrev pub judged : List Case
 judged =
     -- every kind once, with flags and fields at their limits
@@ -49,10 +49,10 @@ judged =
     ∷ judges (0x40000001 ∷ 2 ∷ []) 0
     ∷ judges (0x50000002 ∷ 0 ∷ 1 ∷ []) 0
     ∷ judges (0x60000000 ∷ []) 0
-    ∷ judges (0x6c000003 ∷ 0x80000000 ∷ 0x00800002 ∷ 1 ∷ []) 0
+    ∷ judges (0x6c000003 ∷ 0x80000000 ∷ 0x00008002 ∷ 1 ∷ []) 0
     ∷ judges (0x70000040 ∷ replicate 64 0) 0
     ∷ judges (0x80000002 ∷ 1 ∷ 1 ∷ []) 0
-    ∷ judges (0x90000001 ∷ 0x00800002 ∷ []) 0
+    ∷ judges (0x90000001 ∷ 0x00008002 ∷ []) 0
     ∷ judges (0xa0000001 ∷ 0 ∷ []) 0
     -- an empty node; a kind above 10
     ∷ judges [] 3
@@ -76,18 +76,21 @@ judged =
     ∷ judges (0x40010001 ∷ 0 ∷ []) 3
     ∷ judges (0x40000001 ∷ 0x1000 ∷ []) 3
     ∷ judges (0x60000001 ∷ 0x1000 ∷ []) 3
-    ∷ judges (0x64000001 ∷ 0x00800000 ∷ []) 3
+    ∷ judges (0x60000001 ∷ 0x2000 ∷ []) 3
+    ∷ judges (0x60000001 ∷ 0x4000 ∷ []) 3
+    ∷ judges (0x64000001 ∷ 0x00008000 ∷ []) 3
     -- a child not below the count; a name not in the table
     ∷ judges (0x40000001 ∷ 3 ∷ []) 4
     ∷ judges (0x60000001 ∷ 0x00000003 ∷ []) 4
-    ∷ judges (0x60000001 ∷ 0x01000000 ∷ []) 4
-    ∷ judges (0x90000001 ∷ 0x01000000 ∷ []) 4
+    ∷ judges (0x60000001 ∷ 0x00010000 ∷ []) 4
+    ∷ judges (0x90000001 ∷ 0x00010000 ∷ []) 4
+    ∷ judges (0x60000001 ∷ 0x7fff8000 ∷ []) 4
     -- names that don't rise
-    ∷ judges (0x60000002 ∷ 0x00800000 ∷ 0x00000000 ∷ []) 5
+    ∷ judges (0x60000002 ∷ 0x00008000 ∷ 0x00000000 ∷ []) 5
     ∷ judges (0x60000002 ∷ 0x00000000 ∷ 0x80000000 ∷ []) 5
     -- any 3 before any 4, and that before 5
     ∷ judges (0x70000002 ∷ 3 ∷ 0x1000 ∷ []) 3
-    ∷ judges (0x60000002 ∷ 0x00800000 ∷ 0x00000003 ∷ []) 4
+    ∷ judges (0x60000002 ∷ 0x00008000 ∷ 0x00000003 ∷ []) 4
     ∷ []
 
 -- the arena of 01's sheet: a, int, and their union

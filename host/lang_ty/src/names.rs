@@ -1,9 +1,9 @@
+use coombtray::ffi;
 use smol_str::SmolStr;
 
 use crate::refusal::Refused;
 
-/// The most names of a table, and bytes of a name.
-const MOST: usize = 256;
+/// The most bytes of a name.
 const LONGEST: usize = 64;
 
 /// The names that nodes use, sorted by bytes, as the library wants them. A name enters when a node with it comes; those
@@ -14,7 +14,7 @@ pub(crate) struct Names {
     texts: Vec<SmolStr>,
     /// The same for the library: a length byte before each.
     table: Vec<u8>,
-    came_at: Vec<u8>,
+    came_at: Vec<u16>,
 }
 
 fn fits(name: &SmolStr) -> bool {
@@ -45,19 +45,24 @@ impl Names {
     pub fn enter<'a>(
         &mut self,
         names: impl Iterator<Item = &'a SmolStr>,
-    ) -> Result<Vec<u8>, Refused> {
+    ) -> Result<Vec<u16>, Refused> {
         let fresh: Vec<&SmolStr> = names.filter(|name| self.rank(name).is_none()).collect();
-        if !fresh.iter().all(|name| fits(name)) || self.texts.len() + fresh.len() > MOST {
+        if !fresh.iter().all(|name| fits(name)) || !self.has_room(&fresh) {
             return Err(Refused::NAMES);
         }
-        let mut ranks: Vec<u8> = (0..self.texts.len()).map(|rank| rank as u8).collect();
+        let mut ranks: Vec<u16> = (0..self.texts.len()).map(|rank| rank as u16).collect();
         for name in fresh {
             let entered = self.insert(name);
             for rank in &mut ranks {
-                *rank += u8::from(usize::from(*rank) >= entered);
+                *rank += u16::from(usize::from(*rank) >= entered);
             }
         }
         Ok(ranks)
+    }
+
+    fn has_room(&self, fresh: &[&SmolStr]) -> bool {
+        let bytes: usize = fresh.iter().map(|name| 1 + name.len()).sum();
+        self.texts.len() + fresh.len() <= ffi::NAMES && self.table.len() + bytes <= ffi::TABLE
     }
 
     /// The rank at which a name has entered.
@@ -66,7 +71,7 @@ impl Names {
         let at: usize = self.texts[..rank].iter().map(|text| 1 + text.len()).sum();
         let bytes = [name.len() as u8].into_iter().chain(name.bytes());
         self.table.splice(at..at, bytes);
-        self.came_at.insert(rank, self.texts.len() as u8);
+        self.came_at.insert(rank, self.texts.len() as u16);
         self.texts.insert(rank, name.clone());
         rank
     }

@@ -25,7 +25,7 @@ impl Refused {
 
     fn cause(self) -> &'static str {
         match self.0 {
-            1 => "the host that lends memory: the table holds 256 names, each of 1 to 64 bytes from 32 to 126",
+            1 => "the host that lends memory: the table holds 4,096 names in 65,536 bytes, each name of 1 to 64 bytes from 32 to 126",
             3 => "the author of the node: it is Extern, or has no member, over 64 members or fields, or an optional name without a field",
             4 => "the author of the node: a child isn't stored before it",
             6 => "the author of the call: the root isn't in the arena",

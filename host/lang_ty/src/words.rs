@@ -91,7 +91,7 @@ pub(crate) fn names_in(node: &OutputTy) -> impl Iterator<Item = &SmolStr> {
 }
 
 /// Gives the name in a field's word the rank that it has now, by its old one.
-pub(crate) fn rename(field: &mut u32, ranks: &[u8]) {
+pub(crate) fn rename(field: &mut u32, ranks: &[u16]) {
     let rank = ranks[name(*field) as usize];
     *field = with_name(*field, rank.into());
 }

@@ -3,7 +3,7 @@
 
 mod common;
 
-use common::{full, long_text, many_members, one_name_more, unlaid, with_var};
+use common::{full, long_names_and, long_text, many_members, one_name_more, unlaid, with_var};
 use lang_ty::outside_limits::{counts, Counts};
 use lang_ty::simplify::simplify;
 use lang_ty::{OutputTy, TyRef, TypeArena};
@@ -69,6 +69,11 @@ fn more_names_and_nodes_than_fit() {
         "its one name fits in a table"
     );
     others_still_go_to_the_library(&mut arena, TyRef::from_raw(0));
+
+    let (mut arena, node) = long_names_and(16);
+    let odd = arena.intern(node);
+    let (text, _, total) = counted(|| arena.display(odd).to_string());
+    assert_eq!((text, total), ("n".repeat(16), 0), "so does this one");
 
     let (mut arena, list) = full();
     let (simplified, _, total) = counted(|| simplify(&mut arena, list));

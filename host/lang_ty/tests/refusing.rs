@@ -5,7 +5,7 @@ mod common;
 
 use std::panic::{catch_unwind, AssertUnwindSafe};
 
-use common::{full, long_text, many_members, one_name_more, unlaid, with_var};
+use common::{full, long_names_and, long_text, many_members, one_name_more, unlaid, with_var};
 use lang_ty::simplify::simplify;
 use lang_ty::{OutputTy, TyRef, TypeArena};
 
@@ -54,7 +54,17 @@ fn a_name_too_many() {
     let said = said(&mut arena, |arena| arena.intern(node.clone()));
     refused(&said, 1, HOST, &format!("; the node is {node:?}"));
     let last = TyRef::from_raw(arena.len() as u32 - 1);
-    assert!(arena.display(last).to_string().ends_with(", name255: a }"));
+    assert!(arena.display(last).to_string().ends_with(", name4095: a }"));
+}
+
+#[test]
+fn a_byte_too_many() {
+    let (mut arena, node) = long_names_and(16);
+    let said = said(&mut arena, |arena| arena.intern(node.clone()));
+    refused(&said, 1, HOST, &format!("; the node is {node:?}"));
+    let (mut arena, node) = long_names_and(15);
+    let named = arena.intern(node);
+    assert_eq!(arena.display(named).to_string(), "n".repeat(15));
 }
 
 #[test]

@@ -15,9 +15,9 @@ fn names_enter_at_their_rank() {
     let mut arena = TypeArena::new();
     let int = arc_ty!(arena, Int);
     // Neither rising nor falling, so that names move while nodes have them.
-    let name = |at: u32| format!("name{:03}", at * 97 % 256);
+    let name = |at: u32| format!("name{:04}", at * 97 % 4096);
     let mut sets = Vec::new();
-    for at in 0..256 {
+    for at in 0..4095 {
         let fields = [(name(at), int), (name(at / 2), int)];
         let fields = fields.iter().map(|(name, ty)| (name.as_str(), *ty));
         let set = AttrSetTy::from_internal(fields, false);

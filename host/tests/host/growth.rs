@@ -155,7 +155,7 @@ fn words(random: &mut Random, there: u32) -> Vec<u32> {
         1 => vec![0x5000_0002, random.below(there), child],
         2 => vec![
             0x6000_0001,
-            random.below(2) << 31 | random.below(4) << 23 | child,
+            random.below(2) << 31 | random.below(4) << 15 | child,
         ],
         kind => {
             let count = [1, 2, 2, 3, 3, 40][random.below(6) as usize];
@@ -182,7 +182,7 @@ fn node(words: &[u32]) -> OutputTy {
         },
         6 => {
             let (ty, optional) = (at(&body[0]), body[0] >> 31 == 1);
-            let name = NAMES[(body[0] >> 23 & 0xff) as usize];
+            let name = NAMES[(body[0] >> 15 & 0xffff) as usize];
             let mut attrs = AttrSetTy::new();
             attrs.fields.insert(name.into(), Field { ty, optional });
             OutputTy::AttrSet(attrs)

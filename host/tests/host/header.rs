@@ -142,7 +142,7 @@ fn in_source() -> Declared {
 #[test]
 fn the_same_everywhere() {
     let source = in_source();
-    assert_eq!(source.len(), 23);
+    assert_eq!(source.len(), 24);
     assert_eq!(in_header(&read("lang_ty.h")), source);
     assert_eq!(in_ffi(&read("src/ffi.rs")), source);
 }
@@ -151,6 +151,8 @@ fn the_same_everywhere() {
 fn the_same_constants() {
     let header = read("lang_ty.h");
     let known = [
+        ("LANG_TY_NAMES", ffi::NAMES),
+        ("LANG_TY_TABLE", ffi::TABLE),
         ("LANG_TY_WORDS", ffi::WORDS),
         ("LANG_TY_STARTS", ffi::STARTS),
         ("LANG_TY_TEXT", ffi::TEXT),

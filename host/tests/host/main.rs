@@ -2,6 +2,7 @@
 //! compare/host.
 
 mod build;
+mod converting;
 mod deep;
 mod growth;
 mod header;

@@ -1,6 +1,8 @@
 //! The name table, names as the manual writes them, and more names for an arena that has nodes.
 
-use coombtray::{sheet_line, AttrSetTy, Field, Names, OutputTy, Refusal, TyRef, TypeArena};
+use coombtray::{
+    ffi, sheet_line, AttrSetTy, Field, Names, OutputTy, PrimitiveTy, Refusal, TyRef, TypeArena,
+};
 
 use crate::build::*;
 
@@ -16,19 +18,74 @@ fn sorted_and_each_once() {
     assert!(Names::new([""; 0]).unwrap().is_empty());
 }
 
+/// 4,096 names of 4 to 64 bytes that have 65,536 bytes together, each with its length byte.
+fn as_many_as_can_be() -> Vec<String> {
+    let text = |k: usize| {
+        let more = match k % 16 {
+            0 => 60,
+            1 => 4,
+            _ => 8,
+        };
+        format!("{k:04}{}", "~".repeat(more))
+    };
+    (0..4_096).map(text).collect()
+}
+
+/// Where the library finds the text of a name.
+fn text_at(table: &[u8], number: u32) -> &[u8] {
+    let (mut start, mut length) = (0, 0);
+    let (bytes, count) = (table.as_ptr(), table.len());
+    // SAFETY: the table lives through the call, and so do the two numbers.
+    let answer = unsafe { ffi::lang_ty_name_at(bytes, count, number, &mut start, &mut length) };
+    assert_eq!(answer, 0);
+    &table[start..start + length]
+}
+
 #[test]
 fn as_many_and_as_long_as_can_be() {
-    let text = |k: usize| format!("{k:03}{}", "~".repeat(k % 62));
-    let texts: Vec<String> = (0..256).map(text).collect();
+    let texts = as_many_as_can_be();
     let names = Names::new(texts.iter().rev()).unwrap();
+    assert_eq!((names.len(), names.table().len()), (4_096, 65_536));
     assert!(names.iter().eq(texts.iter().map(String::as_str)));
-    let mut t = TypeArena::new(names);
-    let int = int(&mut t);
-    for text in &texts {
-        let named = put(&mut t, OutputTy::Named(text.clone(), int));
-        assert_eq!(t.get(named), Ok(OutputTy::Named(text.clone(), int)));
-        assert_eq!(t.display(named).as_deref(), Ok(text.as_str()));
+    for number in [0, 1, 2, 2_048, 4_095] {
+        let text = text_at(names.table(), number as u32);
+        assert_eq!(text, texts[number].as_bytes());
     }
+    // A node for each name but the first, over node 0.
+    let int = TyRef::from_raw(0);
+    let named = |text: &String| OutputTy::Named(text.clone(), int);
+    let nodes = [OutputTy::Primitive(PrimitiveTy::Int)];
+    let nodes = nodes.into_iter().chain(texts[1..].iter().map(named));
+    let t = TypeArena::from_nodes(names, nodes).unwrap();
+    for number in [1, 255, 256, 257, 4_094, 4_095] {
+        let (ty, text) = (TyRef::from_raw(number), &texts[number as usize]);
+        assert_eq!(t.get(ty), Ok(named(text)));
+        assert_eq!(t.display(ty).as_ref(), Ok(text));
+    }
+}
+
+#[test]
+fn as_many_bytes_as_can_be() {
+    let refused = |texts: &[String]| Names::new(texts).map_err(Refusal::number).err();
+    let mut texts = as_many_as_can_be();
+    texts[7].push('~');
+    assert_eq!(refused(&texts), Some(1), "65,537 bytes");
+    texts.pop();
+    assert_eq!(refused(&texts), None);
+    // 1,008 names of 64 bytes leave 16 bytes.
+    let mut texts: Vec<String> = (0..1_008).map(|k| format!("{k:064}")).collect();
+    texts.push("~".repeat(15));
+    let names = Names::new(&texts).unwrap();
+    assert_eq!((names.len(), names.table().len()), (1_009, 65_536));
+    texts.push("}".into());
+    assert_eq!(refused(&texts), Some(1), "65,538 bytes");
+    texts.pop();
+    texts[1_008].push('~');
+    assert_eq!(refused(&texts), Some(1), "65,537 bytes");
+    let mut t = TypeArena::new(names);
+    let before = t.clone();
+    assert_eq!(t.add_names(["}"]).map_err(Refusal::number), Err(1));
+    assert!(untouched(&t, &before));
 }
 
 #[test]
@@ -46,8 +103,8 @@ fn names_that_are_refused() {
     }
     assert!(!refused(" ~"));
     let many = |count: usize| Names::new((0..count).map(|number| number.to_string()));
-    assert_eq!(many(256).unwrap().len(), 256);
-    assert_eq!(many(257).map_err(Refusal::number), Err(1));
+    assert_eq!(many(4_096).unwrap().len(), 4_096);
+    assert_eq!(many(4_097).map_err(Refusal::number), Err(1));
 }
 
 /// Names, and how the manual writes them.
@@ -164,7 +221,7 @@ fn more_names_that_are_refused() {
     put(&mut t, OutputTy::Named("roll".into(), int));
     let before = t.clone();
     assert_eq!(t.add_names([""]).map_err(Refusal::number), Err(1));
-    let many = (0..256).map(|number| number.to_string());
+    let many = (0..4_096).map(|number| number.to_string());
     assert_eq!(t.add_names(many).map_err(Refusal::number), Err(1));
     assert!(untouched(&t, &before));
     // An arena without a word to spare has room for its nodes under any names.

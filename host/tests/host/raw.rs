@@ -307,6 +307,37 @@ fn a_sound_arena_is_answered() {
     }
 }
 
+/// So many names of so many bytes each.
+fn table_of(count: usize, length: usize) -> Vec<u8> {
+    let names = (0..count).map(|k| format!("{}{k:0length$}", length as u8 as char));
+    names.collect::<String>().into_bytes()
+}
+
+/// 1,009 names in 65,536 bytes.
+fn full_table() -> Vec<u8> {
+    [table_of(1_008, 64), b"\x0f}~~~~~~~~~~~~~~".to_vec()].concat()
+}
+
+/// The same with one byte more.
+fn last_name_longer() -> Vec<u8> {
+    [table_of(1_008, 64), b"\x10}~~~~~~~~~~~~~~~".to_vec()].concat()
+}
+
+#[test]
+fn a_full_table_is_answered() {
+    assert_eq!(full_table().len(), ffi::TABLE);
+    assert_eq!(last_name_longer().len(), ffi::TABLE + 1);
+    for table in [full_table(), table_of(4_096, 15)] {
+        for (at, call) in CALLS.iter().enumerate() {
+            let mut lent = sound();
+            lent.table.clone_from(&table);
+            // 9: the sheet of so many names has no room in the lent bytes.
+            let answer = call(&mut lent);
+            assert!([0, 9].contains(&answer), "call {at}: {answer}");
+        }
+    }
+}
+
 #[test]
 fn one() {
     all_refuse(1, |l| l.table = b"\x00".to_vec());
@@ -314,6 +345,9 @@ fn one() {
     all_refuse(1, |l| l.table = b"\x01\x1f".to_vec());
     all_refuse(1, |l| l.table = b"\x01q\x01p".to_vec());
     all_refuse(1, |l| l.table = b"\x01p\x01p".to_vec());
+    all_refuse(1, |l| l.table = table_of(4_097, 4));
+    all_refuse(1, |l| l.table = [&full_table()[..], b"\x01~"].concat());
+    all_refuse(1, |l| l.table = last_name_longer());
     // Before 2.
     all_refuse(1, |l| {
         l.table = b"\x41".to_vec();
@@ -373,7 +407,7 @@ fn a_target_that_is_no_arena() {
 
 #[test]
 fn nodes_that_are_refused() {
-    let nodes: [(&[u32], u32); 9] = [
+    let nodes: [(&[u32], u32); 18] = [
         (&[], 3),
         (&[0xb000_0000], 3),
         (&[0x4000_0001], 3),
@@ -381,7 +415,16 @@ fn nodes_that_are_refused() {
         (&[0x4800_0001, 0], 3),
         (&[0x2000_0001, 8], 3),
         (&[0x4000_0001, 2], 4),
-        (&[0x9000_0001, 0x0080_0000], 4),
+        (&[0x9000_0001, 0x0000_1000], 3),
+        (&[0x9000_0001, 0x0000_2000], 3),
+        (&[0x9000_0001, 0x0000_4000], 3),
+        (&[0x9000_0001, 0x8000_0000], 3),
+        (&[0x6000_0001, 0x8000_1000], 3),
+        (&[0x6000_0001, 0x8000_2000], 3),
+        (&[0x6000_0001, 0x8000_4000], 3),
+        (&[0x9000_0001, 0x0000_8000], 4),
+        (&[0x9000_0001, 0x4000_0000], 4),
+        (&[0x6000_0001, 0xffff_8000], 4),
         (&[0x6000_0002, 0, 0], 5),
     ];
     for (node, number) in nodes {

@@ -1,7 +1,9 @@
 //! Each number that can be caused through the crate, and memory afterwards. 5 comes from a sheet alone: fields are a sorted
 //! map.
 
-use coombtray::{sheet_line, AttrSetTy, Names, OutputTy, PrimitiveTy, Refusal, TyRef, TypeArena};
+use coombtray::{
+    convert_sheet, sheet_line, AttrSetTy, Names, OutputTy, PrimitiveTy, Refusal, TyRef, TypeArena,
+};
 
 use crate::build::*;
 
@@ -84,8 +86,8 @@ fn four_by_names() {
         assert_eq!(interned(&mut t, OutputTy::Named(name.into(), a)), 4);
     }
     assert_eq!(interned(&mut t, nameless(64)), 4);
-    // With all 256 numbers taken a name that isn't there is refused too.
-    let more = (0..255).map(|number| format!("q{number}"));
+    // With all 4,096 numbers taken a name that isn't there is refused too.
+    let more = (0..4_095).map(|number| format!("q{number}"));
     t.add_names(more).unwrap();
     assert_eq!(interned(&mut t, nameless(1)), 4);
 }
@@ -388,8 +390,8 @@ fn sheets_of_large_types() {
     assert_eq!(number(sheet_line(&sheet(&t, ty.into_raw()))), 9);
 }
 
-/// A refusal by each number, 1 to 10.
-pub fn each() -> [Refusal; 10] {
+/// A refusal by each number, 1 to 11.
+pub fn each() -> [Refusal; 11] {
     let mut t = named(&["p", "q"]);
     let vars: Vec<TyRef> = (0..65).map(|index| var(&mut t, index)).collect();
     let members = [union(&mut t, &vars[..64]), vars[64]];
@@ -412,12 +414,13 @@ pub fn each() -> [Refusal; 10] {
         t.normalize_set_ops(wide).unwrap_err(),
         t.display_into(root, &mut []).unwrap_err(),
         sheet_line(&[]).unwrap_err(),
+        convert_sheet(&mut []).unwrap_err(),
     ]
 }
 
 #[test]
 fn numbers() {
-    assert!(each().map(Refusal::number).into_iter().eq(1..=10));
+    assert!(each().map(Refusal::number).into_iter().eq(1..=11));
     let text = "refused 1, caused by the host that lends memory: the name table breaks a rule";
     assert_eq!(each()[0].to_string(), text);
 }

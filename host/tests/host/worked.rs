@@ -114,7 +114,7 @@ fn sets_in_print() {
     assert_eq!(t.display(all).unwrap(), text);
     assert_eq!(t.get(all), Ok(OutputTy::AttrSet(attrs)));
     // Head of kind 6, open, dynamic, three words; `pitch` is name 0.
-    let words = [0x6c00_0003, 0x8000_0000, 0x0080_0001, 0];
+    let words = [0x6c00_0003, 0x8000_0000, 0x0000_8001, 0];
     assert_eq!(t.words()[2..], words);
 }
 
@@ -219,12 +219,12 @@ fn words_of_each_kind() {
             },
             vec![0x5000_0002, 1, 4],
         ),
-        (OutputTy::AttrSet(open_set), vec![0x6800_0001, 0x0080_0002]),
+        (OutputTy::AttrSet(open_set), vec![0x6800_0001, 0x0000_8002]),
         (OutputTy::Union(vec![at(5), at(5)]), vec![0x7000_0002, 5, 5]),
         (OutputTy::Intersection(vec![at(6)]), vec![0x8000_0001, 6]),
         (
             OutputTy::Named("q".into(), at(0)),
-            vec![0x9000_0001, 0x0080_0000],
+            vec![0x9000_0001, 0x0000_8000],
         ),
         (OutputTy::Neg(at(9)), vec![0xa000_0001, 9]),
     ];
@@ -273,11 +273,13 @@ fn the_sheet_of_document_01() {
 
 #[test]
 fn limits_that_fit() {
-    let all: Vec<String> = (0..256).map(|number| format!("n{number:03}")).collect();
+    let all = (0..4_096).map(|number| format!("n{number:04}"));
+    let all: Vec<String> = all.collect();
     let mut t = TypeArena::new(Names::new(&all).unwrap());
     let a = var(&mut t, 0);
-    let last = put(&mut t, OutputTy::Named(all[255].clone(), a));
-    assert_eq!(t.display(last), Ok("n255".into()));
+    let last = put(&mut t, OutputTy::Named(all[4_095].clone(), a));
+    assert_eq!(t.display(last), Ok("n4095".into()));
+    assert_eq!(t.words()[2..], [0x9000_0001, 0x07ff_8000]);
     let members = [a; 64];
     let wide = union(&mut t, &members);
     assert_eq!(t.get(wide), Ok(OutputTy::Union(members.to_vec())));

@@ -122,7 +122,7 @@ fn all_words(made: &mut Made) -> OutputTy {
     panic!("16,384 words hold no 257 lists");
 }
 
-/// 255 names, and a set with two more.
+/// 4,095 names, and a set with two more.
 fn all_names(made: &mut Made) -> OutputTy {
     let count = |made: &Made| {
         let nodes = nodes(&made.arena);
@@ -133,10 +133,13 @@ fn all_names(made: &mut Made) -> OutputTy {
         });
         names.collect::<BTreeSet<_>>().len()
     };
-    for at in 0..255 - count(made) {
-        made.add(OutputTy::AttrSet(set([format!("name {at}")])));
+    let more: Vec<_> = (0..4_095 - count(made))
+        .map(|at| format!("name {at}"))
+        .collect();
+    for part in more.chunks(64) {
+        made.add(OutputTy::AttrSet(set(part.iter().cloned())));
     }
-    assert_eq!(count(made), 255);
+    assert_eq!(count(made), 4_095);
     OutputTy::AttrSet(set([" before all".into(), "~ behind them".into()]))
 }
 

@@ -9,6 +9,8 @@
 use std::collections::HashSet;
 use std::fs;
 
+use reference::layout::NEW;
+
 const VARIABLES: u32 = 96;
 const SETS: usize = 3_988;
 const NAMES: u32 = 256;
@@ -28,17 +30,17 @@ fn hash(node: &[u32]) -> u32 {
 
 /// The words of all fields with a name from `first` up to `end`.
 fn fields(first: u32, end: u32) -> impl Iterator<Item = u32> {
-    let named = (first..end).flat_map(|name| [name << 23, 1 << 31 | name << 23]);
+    let named = (first..end).flat_map(|name| [0, 1 << 31].map(|mark| mark | name << NEW.lowest));
     named.flat_map(|field| (0..VARIABLES).map(move |child| field | child))
 }
 
 fn name_of(field: u32) -> u32 {
-    field >> 23 & 0xff
+    (field & NEW.name()) >> NEW.lowest
 }
 
 /// Whether a word is a field with a name below this one.
 fn is_field(word: u32, below: u32) -> bool {
-    let zero = word & 0x007f_f000 == 0;
+    let zero = word & NEW.zero() == 0;
     zero && (word & 0xfff) < VARIABLES && name_of(word) < below
 }
 
@@ -73,7 +75,7 @@ fn unlike() -> Vec<[u32; 4]> {
         let mut names = [below(NAMES), below(NAMES), below(NAMES)];
         names.sort();
         if names[0] < names[1] && names[1] < names[2] {
-            let field = |name: u32| below(2) << 31 | name << 23 | below(VARIABLES);
+            let field = |name: u32| below(2) << 31 | name << NEW.lowest | below(VARIABLES);
             let [first, second, third] = names.map(field);
             seen.insert([SET_OF_THREE, first, second, third]);
         }

@@ -18,21 +18,21 @@ use Rattle.words.proofs.arc_ty.wide.Reads as wide-reads
 use Rattle.display.proofs.+write_ty.{statement}
 use Rattle.display.proofs.+write_ty.Tie.{close}
 
-abbrev μ-write-ty : Measures 4 write-ty-kinds.ps ℕ
-μ-write-ty κs a = a .1 .1 .1 .1 .1 .0
+abbrev μ-write-ty : Measures 5 write-ty-kinds.ps ℕ
+μ-write-ty κs a = a .1 .1 .1 .1 .1 .1 .0
 
-abbrev write-ty-at : ℕ → In 4 write-ty-kinds.ps
-write-ty-at t = and 4 write-ty-kinds.ps (is 4 write-ty-kinds.ps μ-write-ty t) write-ty.Pre
+abbrev write-ty-at : ℕ → In 5 write-ty-kinds.ps
+write-ty-at t = and 5 write-ty-kinds.ps (is 5 write-ty-kinds.ps μ-write-ty t) write-ty.Pre
 
-abbrev write-ty-below : ℕ → In 4 write-ty-kinds.ps
+abbrev write-ty-below : ℕ → In 5 write-ty-kinds.ps
 write-ty-below t =
-    and 4 write-ty-kinds.ps (falls 4 write-ty-kinds.ps _<_ μ-write-ty t) write-ty.Pre
+    and 5 write-ty-kinds.ps (falls 5 write-ty-kinds.ps _<_ μ-write-ty t) write-ty.Pre
 
 abbrev write-ty-Inv-loop : write-ty-lts.InvT-loop
-write-ty-Inv-loop table spelling words starts c n text₀ count node children end₀ i₀ text end i = Printing spelling table words starts c n node children text₀ end₀ text end i
+write-ty-Inv-loop table places spelling words starts c n text₀ count node children end₀ i₀ text end i = Printing spelling table words starts c n node children text₀ end₀ text end i
 
 abbrev write-ty-μ-loop : write-ty-lts.MeasureT-loop
-write-ty-μ-loop table spelling words starts c n text₀ count node children end₀ i₀ text end i = children - i
+write-ty-μ-loop table places spelling words starts c n text₀ count node children end₀ i₀ text end i = children - i
 
 abbrev N : ℕ → write-ty-lts.Claims
 N t = (wide-reads.Asked, wide-reads.Learnt, node-at-reads.Asked, node-at-reads.Learnt, shown-count-reads.Asked, shown-count-reads.Learnt, write-beginning-reads.Asked, write-beginning-reads.Learnt, open-child-reads.Asked, open-child-reads.Learnt, child-of-reads.Asked, child-of-reads.Learnt, write-ty-below t, write-ty.Post, close-child-reads.Asked, close-child-reads.Learnt, write-ending-reads.Asked, write-ending-reads.Learnt)
@@ -50,19 +50,24 @@ write-ty-shown-count-requires : (t : ℕ) → write-ty-lts.Need-shown-count-requ
 write-ty-shown-count-requires t c κs = search node-formed
 
 write-ty-write-beginning-requires : (t : ℕ) → write-ty-lts.Need-write-beginning-requires (N t) (write-ty-at t) write-ty.Post write-ty-Inv-loop write-ty-μ-loop
-write-ty-write-beginning-requires t c κs = search node-formed
+write-ty-write-beginning-requires t c κs = (search node-formed, search needs)
 
 write-ty-loop-holds : (t : ℕ) → write-ty-lts.Need-loop-holds (N t) (write-ty-at t) write-ty.Post write-ty-Inv-loop write-ty-μ-loop
 write-ty-loop-holds t c = printing-start (c .before .before .before .before .shown-count .ensures) (c .before .before .before .before .before .node-at .ensures) (c .before .before .before .before .before .before .wide .ensures) (search needs)
 
 write-ty-open-child-requires : (t : ℕ) → write-ty-lts.Need-open-child-requires (N t) (write-ty-at t) write-ty.Post write-ty-Inv-loop write-ty-μ-loop
-write-ty-open-child-requires t c κs = search printing-child
+write-ty-open-child-requires t c κs = (search printing-child, search needs)
 
 write-ty-child-of-requires : (t : ℕ) → write-ty-lts.Need-child-of-requires (N t) (write-ty-at t) write-ty.Post write-ty-Inv-loop write-ty-μ-loop
 write-ty-child-of-requires t c κs = printing-child (c .before .before .before .before .before .loop .inv) (c .before .before .before .before .loop-test .taken)
 
 write-ty-write-ty-requires : (t : ℕ) → write-ty-lts.Need-write-ty-requires (N t) (write-ty-at t) write-ty.Post write-ty-Inv-loop write-ty-μ-loop
-write-ty-write-ty-requires t c κs = (search (printing-falls (c .before .before .before .before .before .before .before .loop .inv) (c .before .before .before .before .before .before .loop-test .taken) (c .before .child-of .ensures)), printing-range (c .before .before .before .before .before .before .before .loop .inv) (c .before .before .before .before .before .before .loop-test .taken) (c .before .child-of .ensures))
+write-ty-write-ty-requires t c κs =
+    let p = c .before .before .before .before .before .before .before .before .before .before .before .before .before .before .before .before .before .before .before .before .pre in
+    let I = c .before .before .before .before .before .before .before .loop .inv in
+    let h = c .before .before .before .before .before .before .loop-test .taken in
+    let M = c .before .child-of .ensures in
+    (search (printing-falls I h M), (printing-range I h M, p .1 .1))
 
 write-ty-close-child-requires : (t : ℕ) → write-ty-lts.Need-close-child-requires (N t) (write-ty-at t) write-ty.Post write-ty-Inv-loop write-ty-μ-loop
 write-ty-close-child-requires t c κs = printing-child (c .before .before .before .before .before .before .before .before .before .before .before .loop .inv) (c .before .before .before .before .before .before .before .before .before .before .loop-test .taken)

@@ -1,11 +1,14 @@
 -- The text fits under the limit, or every byte is cleared.
-use Rattle.display.proofs.Replies.{limit-length, displays-nine, displays-text}
+use Rattle.display.proofs.Replies.{unplaced, limit-length, displays-nine, displays-text}
 use borrow.Author.Needs.{needs}
 use Rattle.display.proofs.display_in.Statement.{statement}
 use Rattle.display.proofs.display_in.Tie as tie
 
 limit-of-requires : tie.Need-limit-of-requires
 limit-of-requires c κs = search needs
+
+find-places-requires : tie.Need-find-places-requires
+find-places-requires c κs = search unplaced
 
 slice-relend-prefix-write-ty : tie.Need-slice-relend-prefix-write-ty
 slice-relend-prefix-write-ty c = search needs
@@ -36,6 +39,7 @@ display-in-spec =
     tie.close
     (tie.spec
     limit-of-requires
+    find-places-requires
     slice-relend-prefix-write-ty
     slice-aggregate-write-ty
     write-ty-requires

@@ -1,6 +1,6 @@
 -- 1 and 2 are the verdict's; what follows them is that of `display_root`.
 use Rattle.display.proofs.Replies.{print-refused, print-done}
-use Rattle.soundness.proofs.Verdicts.{lent-known}
+use Rattle.soundness.proofs.Verdicts.{lent-known, lent-listable}
 use borrow.Author.Needs.{needs}
 use Rattle.display.proofs.print.Statement.{statement}
 use Rattle.display.proofs.print.Tie as tie
@@ -12,7 +12,7 @@ enum-known-lent : tie.Need-enum-known-lent
 enum-known-lent c = search needs
 
 display-root-requires : tie.Need-display-root-requires
-display-root-requires c κs = search lent-known
+display-root-requires c κs = (search lent-known, search lent-listable)
 
 enum-known-lent-2 : tie.Need-enum-known-lent-2
 enum-known-lent-2 c = search needs

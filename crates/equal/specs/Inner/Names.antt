@@ -9,7 +9,7 @@ use Rattle.equal.specs.declared.matching.Reading.{Reading}
 
 -- two names have the same text exactly where the map takes the one to the other
 pub record Matches (ns ms : List Name) (ks : List ℕ) : Type 0 where
-  pub long : length ks ≡ 256
+  pub long : length ks ≡ 4096
   pub texts : (k p : ℕ) → k < length ns → p < length ms → getD ks k 0 ≡ p + 1 → getD ns k [] ≡ getD ms p []
   pub numbers : (k p : ℕ) → k < length ns → p < length ms → getD ns k [] ≡ getD ms p [] → getD ks k 0 ≡ p + 1
 
@@ -23,7 +23,7 @@ pub record Blank (t u ks : List ℕ) : Type 0 where
   pub left-is : names-of t ≡ some left
   pub right : List Name
   pub right-is : names-of u ≡ some right
-  pub long : length ks ≡ 256
+  pub long : length ks ≡ 4096
   pub none : (k : ℕ) → getD ks k 0 ≡ 0
 
 -- name i of a table begins at this place
@@ -39,7 +39,7 @@ pub record Read (t u ks : List ℕ) (r : Reading) : Type 0 where
   pub left-place : Place t left (r .left) (r .«left_at»)
   pub right : List Name
   pub right-place : Place u right (r .right) (r .«right_at»)
-  pub long : length ks ≡ 256
+  pub long : length ks ≡ 4096
   pub later : (k : ℕ) → r .left ≤ k → getD ks k 0 ≡ 0
   pub texts : (k p : ℕ) → k < r .left → p < length right → getD ks k 0 ≡ p + 1 → getD left k [] ≡ getD right p []
   pub numbers : (k p : ℕ) → k < r .left → p < length right → getD left k [] ≡ getD right p [] → getD ks k 0 ≡ p + 1

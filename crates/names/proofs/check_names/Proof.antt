@@ -2,7 +2,7 @@
 use Prim.Native.Nat.{_-_}
 use lib.ListN.{length}
 use Rattle.names.specs.Inner.{name-end}
-use Rattle.names.proofs.Checking.{Stage, stage-start, stage-full, stage-bad, stage-fits, stage-more, stage-few, stage-odd, stage-done}
+use Rattle.names.proofs.Checking.{Stage, stage-long, stage-start, stage-full, stage-bad, stage-fits, stage-more, stage-odd, stage-done}
 use borrow.Author.Needs.{needs}
 use Rattle.names.proofs.check_names.Statement.{statement}
 use Rattle.names.proofs.check_names.Tie as tie
@@ -13,11 +13,14 @@ Inv-loop table from₀ at₀ count₀ lengths₀ from at count lengths = Stage t
 abbrev μ-loop : tie.MeasureT-loop
 μ-loop table from₀ at₀ count₀ lengths₀ from at count lengths = length table - at
 
+returns : tie.Need-returns Inv-loop μ-loop
+returns c = search stage-long
+
 loop-holds : tie.Need-loop-holds Inv-loop μ-loop
 loop-holds c = search stage-start
 
-returns : tie.Need-returns Inv-loop μ-loop
-returns c = search stage-full
+returns-2 : tie.Need-returns-2 Inv-loop μ-loop
+returns-2 c = search stage-full
 
 add-start : tie.Need-add-start Inv-loop μ-loop
 add-start c = search needs
@@ -52,8 +55,8 @@ part-comes-next-end-2 c = search needs
 comes-next-requires : tie.Need-comes-next-requires Inv-loop μ-loop
 comes-next-requires c κs = search needs
 
-returns-2 : tie.Need-returns-2 Inv-loop μ-loop
-returns-2 c = search stage-bad
+returns-3 : tie.Need-returns-3 Inv-loop μ-loop
+returns-3 c = search stage-bad
 
 shared-slice-read-odd : tie.Need-shared-slice-read-odd Inv-loop μ-loop
 shared-slice-read-odd c = search needs
@@ -75,13 +78,13 @@ loop-again : tie.Need-loop-again Inv-loop μ-loop
 loop-again c = stage-more (c .before .before .before .before .before .before .before .before .before .before .loop .inv) (c .before .before .before .before .before .before .before .before .before .loop-test .taken) (c .before .before .before .before .before .before .before .end-of .ensures) (c .before .before .before .comes-next .ensures) (search needs) (search needs) (c .odd .ensures)
 
 count-odd-requires : tie.Need-count-odd-requires Inv-loop μ-loop
-count-odd-requires c κs = search stage-few
-
-returns-3 : tie.Need-returns-3 Inv-loop μ-loop
-returns-3 c = search stage-odd
+count-odd-requires c κs = search needs
 
 returns-4 : tie.Need-returns-4 Inv-loop μ-loop
-returns-4 c = search stage-done
+returns-4 c = search stage-odd
+
+returns-5 : tie.Need-returns-5 Inv-loop μ-loop
+returns-5 c = search stage-done
 
 pub check-names-spec : {M : Type 1} → statement M
 check-names-spec =
@@ -89,8 +92,9 @@ check-names-spec =
     (tie.spec
     Inv-loop
     μ-loop
-    loop-holds
     returns
+    loop-holds
+    returns-2
     add-start
     end-of-requires
     sub-comes-next
@@ -101,7 +105,7 @@ check-names-spec =
     part-comes-next-start-2
     part-comes-next-end-2
     comes-next-requires
-    returns-2
+    returns-3
     shared-slice-read-odd
     odd-requires
     add-lengths
@@ -109,5 +113,5 @@ check-names-spec =
     loop-less
     loop-again
     count-odd-requires
-    returns-3
-    returns-4)
+    returns-4
+    returns-5)

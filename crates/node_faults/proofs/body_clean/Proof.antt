@@ -1,7 +1,7 @@
 -- `body_clean` has a case for each kind.
 use Rattle.types.specs.Kind.{kind-of, body-count}
 use Rattle.types.specs.Node.{below, rising, children-of}
-use Rattle.types.specs.Fault.{each-zero, body-fits}
+use Rattle.types.specs.Fault.{each-zero, body-fits-in}
 use Rattle.node_faults.specs.Inner.{count-fits, body-fault, kind-fault}
 use Rattle.node_faults.proofs.CleanBodies.{clean-not, clean-at, counted-clean, code-clean, exact-clean}
 use borrow.Author.Needs.{needs}
@@ -30,41 +30,41 @@ children-clean-requires-5 : tie.Need-children-clean-requires-5
 children-clean-requires-5 c κs = search needs
 
 returns : tie.Need-returns
-unfolding kind-of kind-fault count-fits body-count body-fault body-fits each-zero below rising children-of
+unfolding kind-of kind-fault count-fits body-count body-fault body-fits-in each-zero below rising children-of
 returns c = search (clean-at, counted-clean)
 
 returns-2 : tie.Need-returns-2
-unfolding kind-of kind-fault count-fits body-count body-fault body-fits each-zero below rising children-of
+unfolding kind-of kind-fault count-fits body-count body-fault body-fits-in each-zero below rising children-of
 returns-2 c = search (clean-at, counted-clean)
 
 returns-3 : tie.Need-returns-3
 returns-3 c = search (clean-at, code-clean)
 
 returns-4 : tie.Need-returns-4
-unfolding kind-of kind-fault count-fits body-count body-fault body-fits each-zero below rising children-of
+unfolding kind-of kind-fault count-fits body-count body-fault body-fits-in each-zero below rising children-of
 returns-4 c = search (clean-at, counted-clean)
 
 returns-5 : tie.Need-returns-5
-unfolding kind-of kind-fault count-fits body-count body-fault body-fits each-zero below rising children-of
+unfolding kind-of kind-fault count-fits body-count body-fault body-fits-in each-zero below rising children-of
 returns-5 c = search (clean-at, exact-clean)
 
 returns-6 : tie.Need-returns-6
-unfolding kind-of kind-fault count-fits body-count body-fault body-fits each-zero below rising children-of
+unfolding kind-of kind-fault count-fits body-count body-fault body-fits-in each-zero below rising children-of
 returns-6 c = search (clean-at, exact-clean)
 
 returns-7 : tie.Need-returns-7
-unfolding kind-of kind-fault count-fits body-count body-fault body-fits each-zero below rising children-of
+unfolding kind-of kind-fault count-fits body-count body-fault body-fits-in each-zero below rising children-of
 returns-7 c = search clean-at
 
 returns-8 : tie.Need-returns-8
-unfolding kind-of kind-fault count-fits body-count body-fault body-fits each-zero below rising children-of
+unfolding kind-of kind-fault count-fits body-count body-fault body-fits-in each-zero below rising children-of
 returns-8 c = search clean-at
 
 returns-9 : tie.Need-returns-9
 returns-9 c = search clean-at
 
 returns-10 : tie.Need-returns-10
-unfolding kind-of kind-fault count-fits body-count body-fault body-fits each-zero below rising children-of
+unfolding kind-of kind-fault count-fits body-count body-fault body-fits-in each-zero below rising children-of
 returns-10 c = search (clean-at, exact-clean)
 
 returns-11 : tie.Need-returns-11

@@ -1,7 +1,7 @@
 -- `body_fault` has a case for each kind whose body is not child words.
 use Rattle.types.specs.Kind.{kind-of}
 use Rattle.types.specs.Node.{below, rising, children-of}
-use Rattle.types.specs.Fault.{each-zero, body-fits}
+use Rattle.types.specs.Fault.{each-zero, body-fits-in}
 use Rattle.node_faults.specs.Inner.{body-fault, kind-fault}
 use Rattle.node_faults.proofs.KindFaults.{kind-none, kind-at, kind-other}
 use borrow.Author.Needs.{needs}
@@ -24,19 +24,19 @@ children-fault-requires : tie.Need-children-fault-requires
 children-fault-requires c κs = search needs
 
 returns-2 : tie.Need-returns-2
-unfolding kind-of kind-fault body-fault body-fits each-zero below rising children-of
+unfolding kind-of kind-fault body-fault body-fits-in each-zero below rising children-of
 returns-2 c = search kind-at
 
 returns-3 : tie.Need-returns-3
-unfolding kind-of kind-fault body-fault body-fits each-zero below rising children-of
+unfolding kind-of kind-fault body-fault body-fits-in each-zero below rising children-of
 returns-3 c = search kind-at
 
 returns-4 : tie.Need-returns-4
-unfolding kind-of kind-fault body-fault body-fits below children-of
+unfolding kind-of kind-fault body-fault body-fits-in below children-of
 returns-4 c = search kind-at
 
 returns-5 : tie.Need-returns-5
-unfolding kind-of kind-fault body-fault body-fits each-zero below rising children-of
+unfolding kind-of kind-fault body-fault body-fits-in each-zero below rising children-of
 returns-5 c = search kind-at
 
 returns-6 : tie.Need-returns-6
@@ -44,7 +44,7 @@ unfolding kind-of kind-fault
 returns-6 c = search kind-at
 
 returns-7 : tie.Need-returns-7
-unfolding kind-of kind-fault body-fault body-fits
+unfolding kind-of kind-fault body-fault body-fits-in
 returns-7 c = search kind-at
 
 returns-8 : tie.Need-returns-8

@@ -6,6 +6,7 @@ use Rattle.simplify.specs.Simplify.{simplified-out}
 use Rattle.simplify.specs.declared.Simplified.the-variants as simplified
 use Rattle.display.specs.Reply.{displayed-out}
 use Rattle.display.specs.declared.Displayed.the-variants as displayed
+use Rattle.names.proofs.Places.{table-listable}
 use borrow.Author.Needs.{needs}
 use Rattle.sheet_format.proofs.answer_type.Statement.{statement}
 use Rattle.sheet_format.proofs.answer_type.Tie as tie
@@ -32,7 +33,7 @@ returns : tie.Need-returns
 returns c = type-stopped (c .before .before .before .before .before .before .before .before .before .before .before .before .before .before .pre) (c .before .before .before .before .before .before .before .simplify-in .ensures) (told-on simplified.Refused simplified-out (λ e. refl) (c .before .enum-told .given .1) (c .refusal .ensures))
 
 display-in-requires : tie.Need-display-in-requires
-display-in-requires c κs = after-range (c .before .before .before .before .before .before .before .before .before .before .before .before .before .before .before .before .before .pre) (c .before .before .before .before .before .before .before .before .before .before .simplify-in .ensures) (c .before .before .before .before .simplified .given .1)
+display-in-requires c κs = (after-range (c .before .before .before .before .before .before .before .before .before .before .before .before .before .before .before .before .before .pre) (c .before .before .before .before .before .before .before .before .before .before .simplify-in .ensures) (c .before .before .before .before .simplified .given .1), table-listable (c .before .before .before .before .before .before .before .before .before .before .before .before .before .before .before .before .before .pre .table))
 
 enum-known-displayed : tie.Need-enum-known-displayed
 enum-known-displayed c = search needs

@@ -3,13 +3,14 @@ use Prim.Native.Nat.{ℕ, _-_, _<_, _≤_}
 use mathlib.Core.Path.{_≡_}
 use mathlib.Core.List.{List}
 use lib.ListN.{length, take, drop, replicate}
+use Rattle.words.specs.declared.Layout.{Layout}
 use Rattle.types.specs.Out.{Out, ok, refuse, _>>=_}
 use Rattle.types.specs.Memory.{Holds}
 use Rattle.types.specs.declared.Counters.{Counters}
 use Rattle.names.specs.Table.{IsTable}
 use Rattle.sheet_reading.specs.declared.Reading.{Reading}
 use Rattle.sheet_reading.specs.declared.Reading.the-variants as reading
-use Rattle.sheet_reading.specs.Sheet.{Sheet, contents, ended, read-sheet}
+use Rattle.sheet_reading.specs.Sheet.{Sheet, contents, ended, read-sheet-in}
 
 -- memory of full size that is all zero: it holds the arena without a node
 pub record Blank (w s : List ℕ) : Type 0 where
@@ -31,8 +32,8 @@ pub data Says (input w s : List ℕ) : Reading → Out Sheet → Type 0 where
       → Says input w s (reading.Sheet e c (sh .root)) (ok sh)
   refused : {n : ℕ} → Says input w s (reading.Refused n) (refuse n)
 
-pub record ReadsSheet (input w s : List ℕ) (r : Reading) : Type 0 where
-  pub is : Says input w s r (read-sheet input)
+pub record ReadsSheet (l : Layout) (input w s : List ℕ) (r : Reading) : Type 0 where
+  pub is : Says input w s r (read-sheet-in l input)
 
 -- the bytes that may be read are the first of the input
 pub record Readable (input bytes : List ℕ) : Type 0 where
@@ -44,5 +45,5 @@ pub record Opened (input bytes w s : List ℕ) : Type 0 where
   pub some : 6 ≤ length bytes
   pub blank : Blank w s
 
-pub record ReadsContents (input bytes : List ℕ) (names nodes root : ℕ) (w s : List ℕ) (r : Reading) : Type 0 where
-  pub is : Says input w s r (contents (record { names = names; nodes = nodes; root = root }) (drop 6 bytes) >>= ended (length input))
+pub record ReadsContents (l : Layout) (input bytes : List ℕ) (names nodes root : ℕ) (w s : List ℕ) (r : Reading) : Type 0 where
+  pub is : Says input w s r (contents l (record { names = names; nodes = nodes; root = root }) (drop 6 bytes) >>= ended (length input))

@@ -19,7 +19,7 @@ pub fn set(names: impl IntoIterator<Item = String>, ty: TyRef) -> AttrSetTy<TyRe
 }
 
 pub fn numbered_names(count: usize) -> impl Iterator<Item = String> {
-    (0..count).map(|at| format!("name{at:03}"))
+    (0..count).map(|at| format!("name{at:04}"))
 }
 
 /// Nodes over the variable 0 that can't be laid, with the number of the refusal.
@@ -46,14 +46,25 @@ pub fn unlaid(var: TyRef) -> Vec<(u32, OutputTy)> {
     ]
 }
 
-/// An arena with 256 names, its variable 0, and a node with one name more.
-pub fn one_name_more() -> (TypeArena, OutputTy) {
+/// An arena with its variable 0 and sets with these names, and a node with one name more.
+fn with_names(names: &[String], another: &str) -> (TypeArena, OutputTy) {
     let (mut arena, var) = with_var();
-    let all: Vec<String> = numbered_names(256).collect();
-    for names in all.chunks(64) {
+    for names in names.chunks(64) {
         arena.intern(OutputTy::AttrSet(set(names.to_vec(), var)));
     }
-    (arena, OutputTy::Named(SmolStr::new("another"), var))
+    (arena, OutputTy::Named(SmolStr::new(another), var))
+}
+
+/// An arena with 4,096 names, and a node with one name more.
+pub fn one_name_more() -> (TypeArena, OutputTy) {
+    let all: Vec<String> = numbered_names(4096).collect();
+    with_names(&all, "another")
+}
+
+/// An arena with 1,008 names of 64 bytes, which leave 16 bytes of a table, and a node with one of so many bytes.
+pub fn long_names_and(length: usize) -> (TypeArena, OutputTy) {
+    let all: Vec<String> = (0..1008).map(|at| format!("{at:064}")).collect();
+    with_names(&all, &"n".repeat(length))
 }
 
 /// An arena of 4,096 nodes, with a type that `simplify` would add a node for.

@@ -59,7 +59,7 @@ part-same-fields-end-2 : tie.Need-part-same-fields-end-2
 part-same-fields-end-2 c = search fields-inside-right
 
 same-fields-requires : tie.Need-same-fields-requires
-same-fields-requires c κs = search fields-as-many
+same-fields-requires c κs = (search needs, search fields-as-many)
 
 returns-4 : tie.Need-returns-4
 returns-4 c = search fields-told

@@ -1,5 +1,5 @@
--- The marks, then what the map says of the names.
-use Rattle.equal.proofs.Fields.{marks-differ, names-told, name-small, name-place, name-next}
+-- The marks, then what the map says of the names, if it reaches so far.
+use Rattle.equal.proofs.Fields.{marks-differ, name-unmapped, names-told, name-next}
 use borrow.Author.Needs.{needs}
 use Rattle.equal.proofs.node_data.same_field.Statement.{statement}
 use Rattle.equal.proofs.node_data.same_field.Tie as tie
@@ -16,11 +16,14 @@ returns c = search marks-differ
 field-name-requires : tie.Need-field-name-requires
 field-name-requires c κs = search needs
 
+returns-2 : tie.Need-returns-2
+returns-2 c = search name-unmapped
+
 mul-wide : tie.Need-mul-wide
-mul-wide c = search name-place
+mul-wide c = search needs
 
 element-copy-out-wide : tie.Need-element-copy-out-wide
-element-copy-out-wide c = search name-small
+element-copy-out-wide c = search needs
 
 wide-requires : tie.Need-wide-requires
 wide-requires c κs = search needs
@@ -31,8 +34,8 @@ field-name-requires-2 c κs = search needs
 add-result : tie.Need-add-result
 add-result c = search name-next
 
-returns-2 : tie.Need-returns-2
-returns-2 c = search names-told
+returns-3 : tie.Need-returns-3
+returns-3 c = search names-told
 
 pub same-field-spec : {M : Type 1} → statement M
 same-field-spec =
@@ -42,9 +45,10 @@ same-field-spec =
     field-optional-requires-2
     returns
     field-name-requires
+    returns-2
     mul-wide
     element-copy-out-wide
     wide-requires
     field-name-requires-2
     add-result
-    returns-2)
+    returns-3)

@@ -1,5 +1,5 @@
 -- No partner, other data, or the pairs of children.
-use Rattle.equal.proofs.Visits.{visit-small, visit-left, visit-none, visit-right, visit-headed, visit-unlike, visit-level, visit-paired}
+use Rattle.equal.proofs.Visits.{visit-small, visit-map, visit-left, visit-none, visit-right, visit-headed, visit-unlike, visit-level, visit-paired}
 use borrow.Author.Needs.{needs}
 use Rattle.equal.proofs.pairs.visit.Statement.{statement}
 use Rattle.equal.proofs.pairs.visit.Tie as tie
@@ -20,7 +20,7 @@ node-at-requires-2 : tie.Need-node-at-requires-2
 node-at-requires-2 c κs = search visit-right
 
 same-data-requires : tie.Need-same-data-requires
-same-data-requires c κs = search visit-headed
+same-data-requires c κs = (search visit-map, search visit-headed)
 
 returns-2 : tie.Need-returns-2
 returns-2 c = search visit-unlike

@@ -25,17 +25,17 @@ refusal-requires c κs = search needs
 returns : tie.Need-returns
 returns c = (node-refused (c .before .before .before .node-end .ensures) (told-on place.Refused place-out (λ e. refl) (c .before .enum-told .given .1) (c .refusal .ensures)), search nodes-refused)
 
-sub-copy-words : tie.Need-sub-copy-words
-sub-copy-words c = search node-low
+sub-copy-node : tie.Need-sub-copy-node
+sub-copy-node c = search node-low
 
-part-copy-words-start : tie.Need-part-copy-words-start
-part-copy-words-start c = search node-low
+part-copy-node-start : tie.Need-part-copy-node-start
+part-copy-node-start c = search node-low
 
-part-copy-words-end : tie.Need-part-copy-words-end
-part-copy-words-end c = search node-high
+part-copy-node-end : tie.Need-part-copy-node-end
+part-copy-node-end c = search node-high
 
-copy-words-requires : tie.Need-copy-words-requires
-copy-words-requires c κs = search node-stretch
+copy-node-requires : tie.Need-copy-node-requires
+copy-node-requires c κs = search node-stretch
 
 array-share-prefix-node : tie.Need-array-share-prefix-node
 array-share-prefix-node c = search node-room
@@ -62,7 +62,7 @@ same-length-2 : tie.Need-same-length-2
 same-length-2 c = search needs
 
 returns-2 : tie.Need-returns-2
-returns-2 c = (node-not-added (c .before .before .before .before .before .before .before .before .before .before .before .before .before .before .before .before .before .before .node-end .ensures) (c .before .before .before .before .before .before .before .before .before .before .before .before .before .before .before .before .place .given .1) (c .before .before .before .before .before .before .before .before .before .before .before .before .copy-words .ensures) (c .before .before .before .before .before .before .before .add-node .ensures .0) (told-on interned.Refused interned-out (λ e. refl) (c .before .enum-told2 .given .1) (c .refusal2 .ensures)), search nodes-refused)
+returns-2 c = (node-not-added (c .before .before .before .before .before .before .before .before .before .before .before .before .before .before .before .before .before .before .node-end .ensures) (c .before .before .before .before .before .before .before .before .before .before .before .before .before .before .before .before .place .given .1) (c .before .before .before .before .before .before .before .before .before .before .before .before .copy-node .ensures) (c .before .before .before .before .before .before .before .add-node .ensures .0) (told-on interned.Refused interned-out (λ e. refl) (c .before .enum-told2 .given .1) (c .refusal2 .ensures)), search nodes-refused)
 
 same-length-3 : tie.Need-same-length-3
 same-length-3 c = search needs
@@ -71,7 +71,7 @@ same-length-4 : tie.Need-same-length-4
 same-length-4 c = search needs
 
 returns-3 : tie.Need-returns-3
-returns-3 c = (node-added (c .before .before .before .before .before .before .before .before .before .before .before .before .before .before .before .before .before .before .node-end .ensures) (c .before .before .before .before .before .before .before .before .before .before .before .before .before .before .before .before .place .given .1) (c .before .before .before .before .before .before .before .before .before .before .before .before .copy-words .ensures) (c .before .before .before .before .before .before .before .add-node .ensures .0) (c .before .interned .given .1), search nodes-told)
+returns-3 c = (node-added (c .before .before .before .before .before .before .before .before .before .before .before .before .before .before .before .before .before .before .node-end .ensures) (c .before .before .before .before .before .before .before .before .before .before .before .before .before .before .before .before .place .given .1) (c .before .before .before .before .before .before .before .before .before .before .before .before .copy-node .ensures) (c .before .before .before .before .before .before .before .add-node .ensures .0) (c .before .interned .given .1), search nodes-told)
 
 pub read-node-spec : {M : Type 1} → statement M
 read-node-spec =
@@ -82,10 +82,10 @@ read-node-spec =
     enum-told
     refusal-requires
     returns
-    sub-copy-words
-    part-copy-words-start
-    part-copy-words-end
-    copy-words-requires
+    sub-copy-node
+    part-copy-node-start
+    part-copy-node-end
+    copy-node-requires
     array-share-prefix-node
     slice-aggregate-add-node
     add-node-requires

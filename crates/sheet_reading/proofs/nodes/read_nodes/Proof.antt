@@ -5,11 +5,11 @@ use Rattle.sheet_reading.proofs.nodes.read_nodes.Statement.{statement}
 use Rattle.sheet_reading.proofs.nodes.read_nodes.Tie as tie
 
 abbrev Inv-loop : tie.InvT-loop
-Inv-loop bytes first words₀ starts₀ names count at₀ c₀ left₀ filter₀ words starts at c left filter =
-    Turn bytes first words₀ starts₀ names count words starts at c left filter
+Inv-loop layout bytes first words₀ starts₀ names count at₀ c₀ left₀ filter₀ words starts at c left filter =
+    Turn layout bytes first words₀ starts₀ names count words starts at c left filter
 
 abbrev μ-loop : tie.MeasureT-loop
-μ-loop bytes first words₀ starts₀ names count at₀ c₀ left₀ filter₀ words starts at c left filter =
+μ-loop layout bytes first words₀ starts₀ names count at₀ c₀ left₀ filter₀ words starts at c left filter =
     left
 
 loop-holds : tie.Need-loop-holds Inv-loop μ-loop

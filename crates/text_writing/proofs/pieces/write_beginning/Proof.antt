@@ -1,6 +1,6 @@
 -- By the kind.
 use Rattle.types.specs.Kind as kinds
-use Rattle.types.specs.Node.{tag-of}
+use Rattle.types.specs.Node.{tag-of-in}
 use Rattle.text_writing.specs.Text.{beginning}
 use Rattle.text_writing.proofs.NodePieces.{short-fits, head-there, begins, begins-primitive, begins-var, begins-name, begins-not}
 use borrow.Author.Needs.{needs}
@@ -29,7 +29,7 @@ same-length : tie.Need-same-length
 same-length c = search needs
 
 returns : tie.Need-returns
-unfolding beginning tag-of
+unfolding beginning tag-of-in
 returns c = search (begins kinds.bottom)
 
 slice-aggregate-append-2 : tie.Need-slice-aggregate-append-2
@@ -42,7 +42,7 @@ same-length-2 : tie.Need-same-length-2
 same-length-2 c = search needs
 
 returns-2 : tie.Need-returns-2
-unfolding beginning tag-of
+unfolding beginning tag-of-in
 returns-2 c = search (begins kinds.top)
 
 first-word-requires : tie.Need-first-word-requires
@@ -85,7 +85,7 @@ same-length-5 : tie.Need-same-length-5
 same-length-5 c = search needs
 
 returns-5 : tie.Need-returns-5
-unfolding beginning tag-of
+unfolding beginning tag-of-in
 returns-5 c = search (begins kinds.list)
 
 slice-aggregate-append-4 : tie.Need-slice-aggregate-append-4
@@ -98,7 +98,7 @@ same-length-6 : tie.Need-same-length-6
 same-length-6 c = search needs
 
 returns-6 : tie.Need-returns-6
-unfolding beginning tag-of
+unfolding beginning tag-of-in
 returns-6 c = search (begins kinds.attr-set)
 
 first-word-requires-3 : tie.Need-first-word-requires-3
@@ -123,7 +123,7 @@ same-length-8 : tie.Need-same-length-8
 same-length-8 c = search needs
 
 returns-8 : tie.Need-returns-8
-unfolding beginning tag-of
+unfolding beginning tag-of-in
 returns-8 c = search (begins kinds.neg)
 
 returns-9 : tie.Need-returns-9

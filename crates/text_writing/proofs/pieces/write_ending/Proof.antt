@@ -1,6 +1,6 @@
 -- By the kind.
 use Rattle.types.specs.Kind as kinds
-use Rattle.types.specs.Node.{tag-of}
+use Rattle.types.specs.Node.{tag-of-in}
 use Rattle.text_writing.specs.Text.{ending}
 use Rattle.text_writing.proofs.NodePieces.{head-there, ends, ends-set, ends-not}
 use borrow.Author.Needs.{needs}
@@ -20,7 +20,7 @@ same-length : tie.Need-same-length
 same-length c = search needs
 
 returns : tie.Need-returns
-unfolding ending tag-of
+unfolding ending tag-of-in
 returns c = search (ends kinds.list)
 
 shared-slice-read-t13 : tie.Need-shared-slice-read-t13

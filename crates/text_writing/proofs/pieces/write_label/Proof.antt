@@ -7,8 +7,8 @@ use Rattle.text_writing.proofs.pieces.write_label.Tie as tie
 kind-in-requires : tie.Need-kind-in-requires
 kind-in-requires c κs = search needs
 
-shared-slice-read-t11 : tie.Need-shared-slice-read-t11
-shared-slice-read-t11 c = search head-there
+shared-slice-read-t12 : tie.Need-shared-slice-read-t12
+shared-slice-read-t12 c = search head-there
 
 sub-write-set-label : tie.Need-sub-write-set-label
 sub-write-set-label c = search (head-there, needs)
@@ -36,7 +36,7 @@ write-label-spec =
     tie.close
     (tie.spec
     kind-in-requires
-    shared-slice-read-t11
+    shared-slice-read-t12
     sub-write-set-label
     part-write-set-label-start
     part-write-set-label-end

@@ -1,6 +1,6 @@
 -- By the kind.
 use Rattle.types.specs.Kind as kinds
-use Rattle.types.specs.Node.{tag-of}
+use Rattle.types.specs.Node.{tag-of-in}
 use Rattle.text_writing.specs.Text.{separator}
 use Rattle.text_writing.proofs.NodePieces.{separates, separates-not}
 use borrow.Author.Needs.{needs}
@@ -20,7 +20,7 @@ same-length : tie.Need-same-length
 same-length c = search needs
 
 returns : tie.Need-returns
-unfolding separator tag-of
+unfolding separator tag-of-in
 returns c = search (separates kinds.lambda)
 
 slice-aggregate-append-after-2 : tie.Need-slice-aggregate-append-after-2
@@ -33,7 +33,7 @@ same-length-2 : tie.Need-same-length-2
 same-length-2 c = search needs
 
 returns-2 : tie.Need-returns-2
-unfolding separator tag-of
+unfolding separator tag-of-in
 returns-2 c = search (separates kinds.attr-set)
 
 slice-aggregate-append-after-3 : tie.Need-slice-aggregate-append-after-3
@@ -46,7 +46,7 @@ same-length-3 : tie.Need-same-length-3
 same-length-3 c = search needs
 
 returns-3 : tie.Need-returns-3
-unfolding separator tag-of
+unfolding separator tag-of-in
 returns-3 c = search (separates kinds.union)
 
 slice-aggregate-append-after-4 : tie.Need-slice-aggregate-append-after-4
@@ -59,7 +59,7 @@ same-length-4 : tie.Need-same-length-4
 same-length-4 c = search needs
 
 returns-4 : tie.Need-returns-4
-unfolding separator tag-of
+unfolding separator tag-of-in
 returns-4 c = search (separates kinds.intersection)
 
 returns-5 : tie.Need-returns-5

@@ -1,0 +1,3 @@
+pub mod Convert
+pub mod Worked
+pub mod Theorems
