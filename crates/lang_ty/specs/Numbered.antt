@@ -1,5 +1,5 @@
--- 0 means success and a refusal has a number from 1 to 10, or 11 from `convert_sheet` alone, so that a host can rely on what it is told (01,
--- "Who can cause which number"; 02, A2).
+-- 0 means success and a refusal has a number from 1 to 10, or 11 from `convert_sheet` alone, so that a host can rely on what it is told
+-- (01, "Who can cause which number"; 02, A2).
 use Prim.Native.Nat.{ℕ, _<_, _≤_}
 use mathlib.Core.Path.{_≡_}
 use Rattle.types.specs.Out.{Out, ok, refuse}

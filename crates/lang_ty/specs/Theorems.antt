@@ -58,8 +58,8 @@ PlainPrintsAlike =
     → ((table : ℕ) (a : Arena) → Holds table w s c a → PlainType (split t) a root)
     → display-nix-reply t w s c root b ≡ display-reply t w s c root b
 
--- of what each call is defined to answer the number is 0 exactly for a value, and at most 10, but for `convert_sheet` 0 or 11. A call that is
--- never refused isn't listed: it always answers 0
+-- of what each call is defined to answer the number is 0 exactly for a value, and at most 10, but for `convert_sheet` 0 or 11. A call that
+-- is never refused isn't listed: it always answers 0
 pub record AllNumbered : Type 1 where
   pub table : (t : List ℕ) → Numbered (table-reply t)
   pub name : (t : List ℕ) (number : ℕ) → Numbered (name-reply t number)

@@ -5,14 +5,14 @@ use mathlib.Core.List.{List}
 use native.Mathlib.Omega.{arith}
 use Rattle.words.specs.declared.Layout.the-variants as layout
 use Rattle.types.specs.Out.{Out, ok, refuse, _>>=_}
-use Rattle.display.specs.Reply.{Reply, reply}
+use Rattle.display.specs.Reply.{Reply}
 use Rattle.sheet_reading.specs.Sheet.{Sheet, read-sheet-in, read-sheet}
 use Rattle.sheet_writing.specs.Bytes.{sheet-bytes}
 use Rattle.sheet_converting.specs.Convert.{converting, convert-reply, left}
 use Rattle.sheet_converting.specs.declared.Converted.{Converted}
 use Rattle.sheet_converting.specs.declared.Converted.the-variants as converted
 use Rattle.sheet_converting.proofs.Theorems.{converted-reads}
-use Rattle.sheet_format.specs.Line.{sheet-type, line-of, sheet-answer-in, sheet-line-in, sheet-line}
+use Rattle.sheet_format.specs.Line.{sheet-type, line-of, sheet-answer-in, sheet-line-in}
 use Rattle.lang_ty.specs.Told.{told, tell-converted}
 use Rattle.lang_ty_nodes_and_texts.specs.Theorems.{SameLine}
 

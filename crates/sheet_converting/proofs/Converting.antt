@@ -1,5 +1,5 @@
 -- What stands in the lent bytes once the words of the nodes, in today's layout, are written behind the table.
-use Prim.Native.Nat.{ℕ, _+_, _*_, _-_, _≤_}
+use Prim.Native.Nat.{ℕ, _+_, _-_, _≤_}
 use mathlib.Core.Path.{_≡_, sym, ap, _∙_}
 use mathlib.Core.List.{List, _++_, append-nil}
 use native.Mathlib.Omega.{arith}
@@ -8,14 +8,14 @@ use lib.Seq.{take-at, take-all, length-take-le}
 use mir.Syntax.{w8}
 use mir.Val.{Fits}
 use Rattle.words.specs.declared.Layout.the-variants as layout
-use Rattle.types.specs.Out.{Out, ok}
+use Rattle.types.specs.Out.{ok}
 use Rattle.types.specs.Memory.{flat-in, flat}
 use Rattle.types.specs.declared.Counters.{Counters}
 use Rattle.types.proofs.Lists.{below-by}
 use Rattle.types.proofs.Addresses.{word-room}
 use Rattle.names.specs.Table.{table}
 use Rattle.appending.specs.Inner.{Writes}
-use Rattle.display.specs.Reply.{Reply, reply}
+use Rattle.display.specs.Reply.{reply}
 use Rattle.sheet_reading.specs.Sheet.{Sheet, read-sheet-in}
 use Rattle.sheet_reading.specs.Inner.Reading.{ReadsSheet}
 use Rattle.sheet_reading.specs.declared.Reading.{Reading}
@@ -23,7 +23,6 @@ use Rattle.sheet_reading.specs.declared.Reading.the-variants as reading
 use Rattle.sheet_reading.proofs.Outcomes.{Read, read-as, refused-as}
 use Rattle.sheet_writing.specs.Bytes.{words-bytes, opening-bytes, number-bytes, sheet-bytes-in, sheet-bytes}
 use Rattle.sheet_writing.specs.Theorems.{WrittenAs}
-use Rattle.sheet_writing.proofs.Numbers.{length-words}
 use Rattle.sheet_writing.proofs.Accepting.{sheet-length}
 use Rattle.sheet_writing.proofs.Theorems.{reads-written}
 use Rattle.sheet_converting.specs.Convert.{converting, convert-reply, left}

@@ -1,24 +1,24 @@
 -- The words of a node in both layouts: they differ in field words alone, and are the same where all names are 0. An old field word is the new
 -- one of a name 256 times as high, so that today's rules read an old node as one with such names.
-use Prim.Native.Nat.{ℕ, suc, _+_, _*_, _^_, _<_, _≤_}
+use Prim.Native.Nat.{ℕ, _+_, _*_, _^_, _≤_}
 use mathlib.Core.Path.{_≡_, refl, sym, ap, _∙_}
 use mathlib.Core.Bool.{Bool, true, false, _&&_}
 use mathlib.Core.List.{List, [], _∷_, _++_, map}
 use native.Mathlib.Omega.{arith}
-use lib.ListN.{length, length-map, length-append}
+use lib.ListN.{length, length-map}
 use lib.Dec.{eqb, ltb}
-use borrow.Author.Tests.{eqb-true, eq-eqb, lt-ltb, le-ltb, ltb-true, ltb-false}
-use Rattle.words.specs.Words.{bit, head-word, field-word, old-field-word}
+use borrow.Author.Tests.{lt-ltb, le-ltb, ltb-false}
+use Rattle.words.specs.Words.{bit, head-word, field-word}
 use Rattle.words.specs.declared.Layout.the-variants as layout
 use Rattle.words.proofs.Words.{old-is-new}
 use Rattle.types.specs.Out.{refuse}
-use Rattle.types.specs.Kind.{body-count, disc}
-use Rattle.types.specs.Node.{Field, field, primitive, list, lambda, attrset, named, Tag, members, bound, var, neg, form, Node, node, tag, children, kind, data-of, field-names, names, child-words-in, child-words, body, head-of, encode-in, encode, below, matched, formed-in, formed, linked, well, decode}
+use Rattle.types.specs.Kind.{body-count}
+use Rattle.types.specs.Node.{Field, field, primitive, list, lambda, attrset, named, Tag, members, bound, var, neg, form, Node, node, tag, children, kind, data-of, field-names, names, child-words-in, child-words, head-of, encode-in, encode, below, formed-in, formed, linked, well, decode}
 use Rattle.types.proofs.Tests.{true-false, and-true, both}
 use Rattle.types.proofs.Lists.{below-cons, below-more}
 use Rattle.types.proofs.Nodes.{cons, length-child-words, Formed, FormedIn, formed-parts, formed-parts-in, parts-formed, parts-formed-in, formed-today}
 use Rattle.types.proofs.Decodes.{well-parts, decode-four-in}
-use Rattle.sheet_converting.specs.Theorems.{Word, kept, Words, none, more}
+use Rattle.sheet_converting.specs.Theorems.{kept, Words, none, more}
 use Rattle.sheet_converting.specs.Theorems as changed
 
 -- ---- only field words differ

@@ -9,16 +9,16 @@ use lib.Seq.{take-all}
 use borrow.Author.Tests.{le-leb}
 use Rattle.words.specs.declared.Layout.the-variants as layout
 use Rattle.types.specs.Out.{Out, ok, refuse, _>>=_}
-use Rattle.types.specs.Node.{Node, tag, names, encode-in, encode, below, decode}
+use Rattle.types.specs.Node.{Node, tag, names, encode-in, below}
 use Rattle.types.specs.Arena.{Arena, sound}
 use Rattle.types.specs.Memory.{flat-in, flat}
-use Rattle.types.proofs.Tests.{true-false, and-true, both}
+use Rattle.types.proofs.Tests.{true-false, and-true}
 use Rattle.types.proofs.Sound.{sound-well, sound-tail}
 use Rattle.names.specs.Table.{Name, table}
 use Rattle.names.proofs.Rules.{good-rules, rules-good}
 use Rattle.node_store.specs.Intern.{has-room}
-use Rattle.sheet_reading.specs.Sheet.{Opening, opening, node-words, placed, added, node as next-node, nodes, Sheet, after-names, contents, ended, read-sheet-in, read-sheet}
-use Rattle.sheet_writing.specs.Bytes.{words-bytes, opening-bytes, sheet-bytes-in, sheet-bytes}
+use Rattle.sheet_reading.specs.Sheet.{Opening, opening, placed, added, node as next-node, nodes, Sheet, after-names, contents, ended, read-sheet-in, read-sheet}
+use Rattle.sheet_writing.specs.Bytes.{words-bytes, opening-bytes, sheet-bytes-in}
 use Rattle.sheet_writing.specs.Theorems.{GoodSheet}
 use Rattle.sheet_writing.proofs.Numbers.{words-join}
 use Rattle.sheet_writing.proofs.Naming.{names-back}

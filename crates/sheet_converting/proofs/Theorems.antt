@@ -16,7 +16,7 @@ use Rattle.names.proofs.Rules.{good-rules}
 use Rattle.display.specs.Reply.{reply}
 use Rattle.sheet_reading.specs.Sheet.{Sheet, read-sheet-in, read-sheet}
 use Rattle.sheet_writing.specs.Bytes.{words-bytes, sheet-bytes-in, sheet-bytes}
-use Rattle.sheet_writing.specs.Theorems.{GoodSheet, WrittenAs}
+use Rattle.sheet_writing.specs.Theorems.{WrittenAs}
 use Rattle.sheet_writing.proofs.Accepting.{sheet-length}
 use Rattle.sheet_writing.proofs.Theorems.{reads-written}
 use Rattle.sheet_converting.specs.Convert.{converting, convert-reply}

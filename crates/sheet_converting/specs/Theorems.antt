@@ -29,7 +29,8 @@ ConvertedReads = (b : List ℕ) (sh : Sheet) → below 256 b ≡ true → read-s
 -- a word stays as it is, or is the word of a field, in a set or a `Named`, and becomes the new word of that field
 pub data Word : ℕ → ℕ → Type 0 where
   kept : {w : ℕ} → Word w w
-  field : (optional : Bool) (name child : ℕ) → name < 2 ^ 8 → child < 2 ^ 12 → Word (old-field-word optional name child) (field-word optional name child)
+  field : (optional : Bool) (name child : ℕ) → name < 2 ^ 8 → child < 2 ^ 12
+      → Word (old-field-word optional name child) (field-word optional name child)
 
 -- that is so of each word of a list, in turn
 pub data Words : List ℕ → List ℕ → Type 0 where

@@ -24,8 +24,8 @@ set-of w = opens 2 2 1 ++ (1 ∷ 97 ∷ 1 ∷ 98 ∷ []) ++ variable ++ (108 ∷
 abbrev named-of : List ℕ → List ℕ
 named-of w = opens 2 2 1 ++ (1 ∷ 97 ∷ 1 ∷ 98 ∷ []) ++ variable ++ (144 ∷ 0 ∷ 0 ∷ 1 ∷ []) ++ w
 
--- 01's sheet, which has no field; an optional field with name 1; a `Named` with name 1; name 0; a bit of the zero field; one that is already
--- of today's layout; a root that is no node; no byte
+-- 01's sheet, which has no field; an optional field with name 1; a `Named` with name 1; name 0; a bit of the zero field; one that is
+-- already of today's layout; a root that is no node; no byte
 abbrev pub worked : List Case
 worked =
     becomes example example

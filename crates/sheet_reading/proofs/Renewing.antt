@@ -1,7 +1,7 @@
 -- The words of an old node, renewed, say under today's layout what the old words say under the old one: so `decode` answers the same of both.
 use Prim.Native.Nat.{ℕ, zero, suc, _+_, _-_, _^_, _<_, _≤_}
 use mathlib.Core.Path.{_≡_, refl, sym, ap, ap₂, _∙_}
-use mathlib.Core.Bool.{Bool, true, false, not, _&&_}
+use mathlib.Core.Bool.{Bool, true, not, _&&_}
 use mathlib.Core.List.{List, [], _∷_, map}
 use mathlib.Core.Option.{Option, none, some}
 use native.Mathlib.Omega.{arith}
@@ -19,7 +19,7 @@ use Rattle.types.specs.Out.{Out}
 use Rattle.types.specs.Kind as kinds
 use Rattle.types.specs.Kind.{Kind, disc, kind-of, body-of}
 use Rattle.types.specs.Node.{Field, field, form, attrset, named, Node, node, tag, names, below, linked, rising, field-of-in, field-of, tag-of-in, tag-of, children-of, guess-kind-in, guess-in, guess, is-words-in, decode-in, decode}
-use Rattle.types.specs.Fault.{head-fits, own-fits, field-part, child-part, each-zero, body-fits-in, body-fits, kind-body-fits-in, fits-in, fits}
+use Rattle.types.specs.Fault.{head-fits, each-zero, body-fits-in, body-fits, kind-body-fits-in, fits-in, fits}
 use Rattle.types.proofs.Tests.{both}
 use Rattle.types.proofs.Lists.{below-cons}
 use Rattle.types.proofs.Nodes.{cons}

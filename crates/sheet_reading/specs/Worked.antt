@@ -61,6 +61,10 @@ two-names = 1 ∷ 97 ∷ 1 ∷ 98 ∷ []
 abbrev two-nodes : Tag → Out Sheet
 two-nodes t = ok (record { names = (97 ∷ []) ∷ (98 ∷ []) ∷ []; arena = node t (0 ∷ []) ∷ node (var 0) [] ∷ []; root = 1 })
 
+-- a closed set whose one field is optional and has name 1
+abbrev optional-one : Tag
+optional-one = form (attrset (field true 1 ∷ []) false false)
+
 -- (01, "A sheet and its line" and "Who can cause which number"): the example, then for each number a sheet that is refused by it; then what
 -- tells the layouts apart (02, A2): the counts of names, name 1 in a field and in a named type, the zero fields, name 0
 abbrev pub worked : List Case
@@ -80,8 +84,8 @@ worked =
     ++ both (0 ∷ 0 ∷ 0 ∷ 0 ∷ 0 ∷ []) (refuse 10)
     ++ both (16 ∷ 1 ∷ 0 ∷ 0 ∷ 0 ∷ 0 ∷ []) (refuse 1)
     ++ each (1 ∷ 1 ∷ 0 ∷ 0 ∷ 0 ∷ 0 ∷ []) (refuse 10) (refuse 1)
-    ++ each (opens 2 2 1 ++ two-names ++ set-with (128 ∷ 128 ∷ 0 ∷ 0 ∷ [])) (refuse 4) (two-nodes (form (attrset (field true 1 ∷ []) false false)))
-    ++ each (opens 2 2 1 ++ two-names ++ set-with (128 ∷ 0 ∷ 128 ∷ 0 ∷ [])) (two-nodes (form (attrset (field true 1 ∷ []) false false))) (refuse 3)
+    ++ each (opens 2 2 1 ++ two-names ++ set-with (128 ∷ 128 ∷ 0 ∷ 0 ∷ [])) (refuse 4) (two-nodes optional-one)
+    ++ each (opens 2 2 1 ++ two-names ++ set-with (128 ∷ 0 ∷ 128 ∷ 0 ∷ [])) (two-nodes optional-one) (refuse 3)
     ++ each (opens 2 2 1 ++ two-names ++ named-with (0 ∷ 0 ∷ 128 ∷ 0 ∷ [])) (two-nodes (form (named 1))) (refuse 3)
     ++ both (opens 2 2 1 ++ two-names ++ named-with (0 ∷ 0 ∷ 16 ∷ 0 ∷ [])) (refuse 3)
     ++ both (opens 2 2 1 ++ two-names ++ named-with (0 ∷ 0 ∷ 64 ∷ 0 ∷ [])) (refuse 3)

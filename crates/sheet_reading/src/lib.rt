@@ -57,7 +57,8 @@ fn read_contents(
     root: u32,
 ) -> Reading
     requires { ⌜ Opened (now input) (now bytes) (now words) (now starts) ⌝ }
-    ensures { λ r. ⌜ ReadsContents layout (now (input .entry)) (now (bytes .entry)) names nodes root (now (words .exit)) (now (starts .exit)) r ⌝ }
+    ensures { λ r. ⌜ ReadsContents layout (now (input .entry)) (now (bytes .entry)) names nodes root (now (words .exit))
+        (now (starts .exit)) r ⌝ }
 {
     if names > most_names(layout) {
         return Reading::Refused(1);

@@ -184,8 +184,8 @@ pub(crate) fn read_nodes(
     count: usize,
 ) -> Nodes
     requires { ⌜ ReadyEmpty (now bytes) first names (now words) (now starts) ⌝ }
-    ensures { λ r. ⌜ StoresNodes layout (now (bytes .entry)) first names count (now (words .entry)) (now (starts .entry)) (now (words .exit))
-        (now (starts .exit)) r ⌝ }
+    ensures { λ r. ⌜ StoresNodes layout (now (bytes .entry)) first names count (now (words .entry)) (now (starts .entry))
+        (now (words .exit)) (now (starts .exit)) r ⌝ }
 {
     let mut at = first;
     let mut c = Counters { nodes: 0, words: 0 };

@@ -141,9 +141,6 @@ module _ (table nodes : ℕ) where
 pub decode-ok : DecodeOk layout.New
 decode-ok = decode-ok-in layout.New
 
-pub ok-decode : OkDecode layout.New
-ok-decode = ok-decode-in layout.New
-
 -- a node that may stand there in either layout may do so in today's
 pub well-today : (l : Layout) (table nodes : ℕ) (x : Node) → well-in l table nodes x ≡ true → well table nodes x ≡ true
 well-today l table nodes x e =

@@ -15,8 +15,8 @@ use Rattle.words.specs.declared.Layout.the-variants as layout
 use Rattle.types.specs.Kind as kinds
 use Rattle.types.specs.Kind.{Kind, disc, kind-of, body-count, body-of}
 use Rattle.types.specs.Out.{number}
-use Rattle.types.specs.Node.{positive, negative, Field, field, primitive, list, lambda, attrset, named, Tag, members, bound, var, neg, form, Node, node, tag, children, kind, data-of, field-names, names, child-words-in, body-in, body, head-of, encode-in, encode, below, matched, formed-in, formed, linked, rising, field-of-in, tag-of-in, children-of, guess-kind-in, guess-in, is-words-in}
-use Rattle.types.specs.Fault.{flags-fit, kind-fits, head-fits, field-part, each-zero, body-fits-in, kind-body-fits-in, fits-in, fits, kind-children, kind-names-in, children-in, words-names-in, first, fault-in}
+use Rattle.types.specs.Node.{positive, negative, Field, field, primitive, list, lambda, attrset, named, Tag, members, bound, var, neg, form, Node, node, tag, children, kind, data-of, field-names, names, child-words-in, body-in, head-of, encode-in, below, matched, formed-in, linked, rising, field-of-in, tag-of-in, children-of, guess-kind-in, guess-in, is-words-in}
+use Rattle.types.specs.Fault.{flags-fit, kind-fits, head-fits, field-part, each-zero, body-fits-in, kind-body-fits-in, fits-in, kind-children, kind-names-in, children-in, words-names-in, first, fault-in}
 use Rattle.types.specs.Theorems.{ChildrenEncode, FitsWords, FaultDecode}
 use Rattle.types.proofs.Tests.{true-false, and-true, both, same-truth}
 use Rattle.types.proofs.Lists.{below-cons, below-map}
@@ -359,9 +359,6 @@ module _ (lay : Layout) where
       ∙ first-fits table nodes ws (fits-in lay ws) refl
 
 -- ---- the same of today's layout
-pub fits-encode : (x : Node) → formed x ≡ true → fits (encode x) ≡ true
-fits-encode = fits-encode-in layout.New
-
 pub children-encode : ChildrenEncode layout.New
 children-encode = children-encode-in layout.New
 

@@ -168,7 +168,8 @@ unfoldable pub formed-in : Layout → Node → Bool
 unfolding below body-count child-words-in
 formed-in l (node t cs) =
     body-count (kind t) (data-of t .dynamic) (length (body (node t cs)))
-    && (matched t (length cs) && (below (data-of t .limit) (data-of t .numbers) && (below (2 ^ name-bits l) (names t) && below (2 ^ 12) cs)))
+    && (matched t (length cs)
+    && (below (data-of t .limit) (data-of t .numbers) && (below (2 ^ name-bits l) (names t) && below (2 ^ 12) cs)))
 
 abbrev pub formed : Node → Bool
 formed = formed-in layout.New
