@@ -52,8 +52,7 @@ nodes-change table (x ∷ s) h e =
 changed : (b : List ℕ) (sh : Sheet) → WrittenAs layout.Old b sh → OnlyFields b (sheet-bytes sh)
 changed b sh W = record {
   front = front sh;
-  old = flat-in layout.Old (sh .arena);
-  new = flat (sh .arena);
+  nodes = sh .arena;
   before = W .bytes ∙ in-old-parts sh;
   after = in-parts sh;
   words = nodes-change (length (sh .names)) (sh .arena) (good-rules layout.Old (sh .names) (W .good .table) .few) (W .good .arena);

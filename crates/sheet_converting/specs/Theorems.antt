@@ -9,6 +9,7 @@ use Rattle.words.specs.declared.Layout.the-variants as layout
 use Rattle.types.specs.Out.{Out, ok, refuse}
 use Rattle.types.specs.Node.{tag, names, below}
 use Rattle.types.specs.Arena.{Arena}
+use Rattle.types.specs.Memory.{flat-in, flat}
 use Rattle.display.specs.Reply.{reply}
 use Rattle.sheet_reading.specs.Sheet.{Sheet, read-sheet-in, read-sheet}
 use Rattle.sheet_writing.specs.Bytes.{words-bytes, sheet-bytes}
@@ -26,7 +27,7 @@ pub record ReadsAlike (b : List ℕ) (sh : Sheet) : Type 0 where
 abbrev pub ConvertedReads : Type 0
 ConvertedReads = (b : List ℕ) (sh : Sheet) → below 256 b ≡ true → read-sheet-in layout.Old b ≡ ok sh → ReadsAlike b sh
 
--- a word stays as it is, or is the word of a field, in a set or a `Named`, and becomes the new word of that field
+-- a word stays as it is, or is the old word of a field and becomes the new word of that field
 pub data Word : ℕ → ℕ → Type 0 where
   kept : {w : ℕ} → Word w w
   field : (optional : Bool) (name child : ℕ) → name < 2 ^ 8 → child < 2 ^ 12
@@ -37,14 +38,14 @@ pub data Words : List ℕ → List ℕ → Type 0 where
   none : Words [] []
   more : {v w : ℕ} {vs ws : List ℕ} → Word v w → Words vs ws → Words (v ∷ vs) (w ∷ ws)
 
--- only field words change: before the words of the nodes all bytes stay, and of the words each does or is a field's
+-- only field words change: before the words of the nodes all bytes stay; the words are those of the same nodes in the two layouts, which by
+-- `encode-in` differ in the field words of sets and of `Named` alone, and each word stays or is a field's
 pub record OnlyFields (b b′ : List ℕ) : Type 0 where
   pub front : List ℕ
-  pub old : List ℕ
-  pub new : List ℕ
-  pub before : b ≡ front ++ words-bytes old
-  pub after : b′ ≡ front ++ words-bytes new
-  pub words : Words old new
+  pub nodes : Arena
+  pub before : b ≡ front ++ words-bytes (flat-in layout.Old nodes)
+  pub after : b′ ≡ front ++ words-bytes (flat nodes)
+  pub words : Words (flat-in layout.Old nodes) (flat nodes)
 
 -- that is so of every old sheet that is converted
 abbrev pub FieldsChange : Type 0
