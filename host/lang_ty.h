@@ -94,6 +94,12 @@ uint32_t lang_ty_name_at(
     const uint8_t *table, size_t table_len,
     uint32_t number, size_t *start, size_t *length);
 
+/* Whether a name of the table is this text, which may be any bytes: `found` is set to 1 and `place` to the name's number, or
+ * `found` to 0 and `place` to how many names come before the text. */
+uint32_t lang_ty_find_name(
+    const uint8_t *table, size_t table_len,
+    const uint8_t *text, size_t text_len, uint32_t *found, uint32_t *place);
+
 /* How two names stand in order, without their length bytes. */
 uint32_t lang_ty_compare_names(
     const uint8_t *left, size_t left_len, const uint8_t *right, size_t right_len,

@@ -689,6 +689,56 @@ static void check_places(void)
     }
 }
 
+/* The names a, ab, b and bcd. */
+#define PREFIXES "\1a\2ab\1b\3bcd"
+#define TEN_BYTES "Line Line "
+
+static const struct {
+    int line;
+    const char *table;
+    size_t table_len;
+    const char *text;
+    size_t text_len;
+    uint32_t answer, found, place;
+} finds[] = {
+    {__LINE__, LINE_AND_TARGET, 12, "Line", 4, LANG_TY_OK, 1, 0},
+    {__LINE__, LINE_AND_TARGET, 12, "Target", 6, LANG_TY_OK, 1, 1},
+    {__LINE__, LINE_AND_TARGET, 12, "Axis", 4, LANG_TY_OK, 0, 0},
+    {__LINE__, LINE_AND_TARGET, 12, "Roll", 4, LANG_TY_OK, 0, 1},
+    {__LINE__, LINE_AND_TARGET, 12, "line", 4, LANG_TY_OK, 0, 2},
+    {__LINE__, LINE_AND_TARGET, 12, "", 0, LANG_TY_OK, 0, 0},
+    /* A text that can be no name: a byte of 0 or 255, or over 64 bytes. */
+    {__LINE__, LINE_AND_TARGET, 12, "\0", 1, LANG_TY_OK, 0, 0},
+    {__LINE__, LINE_AND_TARGET, 12, "Line\0", 5, LANG_TY_OK, 0, 1},
+    {__LINE__, LINE_AND_TARGET, 12, "\377", 1, LANG_TY_OK, 0, 2},
+    {__LINE__, LINE_AND_TARGET, 12, TEN_BYTES TEN_BYTES TEN_BYTES TEN_BYTES TEN_BYTES TEN_BYTES TEN_BYTES, 70, LANG_TY_OK, 0, 1},
+    /* A text that begins a name, or that a name begins. */
+    {__LINE__, PREFIXES, 11, "a", 1, LANG_TY_OK, 1, 0},
+    {__LINE__, PREFIXES, 11, "aa", 2, LANG_TY_OK, 0, 1},
+    {__LINE__, PREFIXES, 11, "ab", 2, LANG_TY_OK, 1, 1},
+    {__LINE__, PREFIXES, 11, "abc", 3, LANG_TY_OK, 0, 2},
+    {__LINE__, PREFIXES, 11, "b", 1, LANG_TY_OK, 1, 2},
+    {__LINE__, PREFIXES, 11, "bc", 2, LANG_TY_OK, 0, 3},
+    {__LINE__, PREFIXES, 11, "bcd", 3, LANG_TY_OK, 1, 3},
+    {__LINE__, PREFIXES, 11, "bcde", 4, LANG_TY_OK, 0, 4},
+    {__LINE__, "", 0, "p", 1, LANG_TY_OK, 0, 0},
+    {__LINE__, "", 0, "", 0, LANG_TY_OK, 0, 0},
+    {__LINE__, "\1p\1p", 4, "p", 1, LANG_TY_BAD_TABLE, 77, 78},
+    {__LINE__, "\1q\1p", 4, "", 0, LANG_TY_BAD_TABLE, 77, 78},
+};
+
+static void check_finds(void)
+{
+    for (size_t k = 0; k < COUNT(finds); k++) {
+        uint32_t found = 77, place = 78;
+        const uint8_t *table = (const uint8_t *)finds[k].table, *text = (const uint8_t *)finds[k].text;
+        uint32_t answer = TOLD(lang_ty_find_name, table, finds[k].table_len, text, finds[k].text_len, &found, &place);
+        check(finds[k].line, "answer", answer, finds[k].answer);
+        check(finds[k].line, "found", found, finds[k].found);
+        check(finds[k].line, "place", place, finds[k].place);
+    }
+}
+
 static void check_names(void)
 {
     static const struct {
@@ -827,6 +877,7 @@ int main(void)
         run_faulty(all[k]);
     check_tables();
     check_places();
+    check_finds();
     check_names();
     check_tyvar_names();
     check_sheets();

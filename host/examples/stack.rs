@@ -63,7 +63,8 @@ const CHAINS: [(&str, Step); 10] = [
 ];
 
 /// A refusal by 7 counts as well: it comes after the recursion is at its deepest.
-const OPERATIONS: [(&str, Operation); 21] = [
+const OPERATIONS: [(&str, Operation); 22] = [
+    ("find", |a, _| a.names().find(NAME).is_ok()),
     ("intern", |a, r| a.intern(OutputTy::List(r)).is_ok()),
     ("get", |a, r| a.get(r).is_ok()),
     ("compare", |a, r| a.compare(r, first()).is_ok()),

@@ -3,7 +3,7 @@ use std::fmt;
 
 use crate::ffi;
 use crate::memory::{Change, Memory, Question, Writing};
-use crate::words;
+use crate::words::{self, Known};
 use crate::{Names, OutputTy, Refusal, TyRef};
 
 /// The nodes of types, each stored once, under the names of one table.
@@ -53,8 +53,9 @@ impl TypeArena {
 
     /// Puts these nodes after the last; a refusal leaves some of them there.
     fn lay(&mut self, nodes: impl IntoIterator<Item = OutputTy>) -> Result<(), Refusal> {
+        let mut known = Known::default();
         for node in nodes {
-            let words = words::encode(&self.memory.names, &node)?;
+            let words = words::encode(&self.memory.names, &mut known, &node)?;
             self.memory.growing(|memory| memory.lay(&words))?;
         }
         self.memory.sound()
@@ -81,7 +82,7 @@ impl TypeArena {
     /// The number of a node, which is added if it isn't there. 3: no member, or over 64 members or fields; 4: a child
     /// that isn't there, or a name that isn't in the table; 7: no room.
     pub fn intern(&mut self, node: OutputTy) -> Result<TyRef, Refusal> {
-        let words = words::encode(&self.memory.names, &node)?;
+        let words = words::encode(&self.memory.names, &mut Known::default(), &node)?;
         let number = self.memory.growing(|memory| memory.intern(&words));
         number.map(TyRef::from_raw)
     }

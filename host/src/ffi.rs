@@ -29,6 +29,15 @@ extern "C" {
         length: *mut usize,
     ) -> u32;
 
+    pub fn lang_ty_find_name(
+        table: *const u8,
+        table_len: usize,
+        text: *const u8,
+        text_len: usize,
+        found: *mut u32,
+        place: *mut u32,
+    ) -> u32;
+
     pub fn lang_ty_compare_names(
         left: *const u8,
         left_len: usize,

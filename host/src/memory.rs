@@ -410,6 +410,23 @@ pub(crate) fn check_names(table: &[u8]) -> Reply<usize> {
     Refusal::judge(answer).map(|()| count)
 }
 
+/// The number of the name that is the text, or how many names of the table come before the text.
+pub(crate) fn find_name(table: &[u8], text: &[u8]) -> Reply<Result<u32, u32>> {
+    let (mut found, mut place) = (0, 0);
+    // SAFETY: see the head of this file.
+    let answer = unsafe {
+        ffi::lang_ty_find_name(
+            table.as_ptr(),
+            table.len(),
+            text.as_ptr(),
+            text.len(),
+            &mut found,
+            &mut place,
+        )
+    };
+    Refusal::judge(answer).map(|()| if found == 1 { Ok(place) } else { Err(place) })
+}
+
 /// One of `ffi::LESS`, `ffi::EQUAL` and `ffi::GREATER`. It is never refused.
 pub(crate) fn compare_names(left: &[u8], right: &[u8]) -> u32 {
     let mut order = 0;

@@ -1,7 +1,6 @@
 use std::ops::Range;
 
-use crate::memory;
-use crate::Refusal;
+use crate::{compare_names, memory, Refusal};
 
 /// The names that the nodes of an arena may use, at most 4,096: sorted bytewise, each once.
 #[derive(Debug, Clone, Default, PartialEq, Eq)]
@@ -17,8 +16,9 @@ impl Names {
     pub fn new<T: AsRef<str>>(names: impl IntoIterator<Item = T>) -> Result<Names, Refusal> {
         let texts = names.into_iter().map(|name| name.as_ref().to_string());
         let mut texts: Vec<String> = texts.collect();
-        texts.sort();
-        texts.dedup();
+        // By the library's order, so that one comparison serves here and in `find`.
+        texts.sort_by(|left, right| compare_names(left, right));
+        texts.dedup_by(|left, right| compare_names(left, right).is_eq());
         let (mut table, mut places) = (Vec::new(), Vec::new());
         for text in &texts {
             // The library refuses a length of 255, so a longer name isn't taken for a short one.
@@ -49,10 +49,24 @@ impl Names {
         &self.table
     }
 
-    pub(crate) fn number(&self, name: &str) -> Option<u32> {
-        let stands = |place: &Range<usize>| self.at(place).cmp(name);
-        let found = self.places.binary_search_by(stands);
-        found.ok().map(|number| number as u32)
+    /// The number of the name that is this text, or, as `Err`, how many names come before the text, which is where it would
+    /// stand: as by [`slice::binary_search`]. Any text may be sought, also one that can be no name.
+    ///
+    /// The library judges the whole table at each call (docs/HOST.md has what that takes).
+    ///
+    /// ```
+    /// use coombtray::Names;
+    ///
+    /// let names = Names::new(["pitch", "roll"])?;
+    /// assert_eq!(names.find("roll"), Ok(1));
+    /// assert_eq!(names.find("rol"), Err(1));
+    /// assert_eq!(names.find("yaw"), Err(2));
+    /// assert_eq!(names.find(""), Err(0));
+    /// # Ok::<(), coombtray::Refusal>(())
+    /// ```
+    pub fn find(&self, text: impl AsRef<[u8]>) -> Result<u32, u32> {
+        let found = memory::find_name(&self.table, text.as_ref());
+        found.expect("the table was judged when it was made")
     }
 
     pub(crate) fn text(&self, number: u32) -> &str {

@@ -1,5 +1,7 @@
 //! A node as the words that the library reads.
 
+use std::collections::HashMap;
+
 use crate::ffi;
 use crate::layout::*;
 use crate::{AttrSetTy, Field, Names, OutputTy, PrimitiveTy, Refusal, TyRef};
@@ -19,20 +21,35 @@ fn number(ty: TyRef) -> Result<u32, Refusal> {
     Ok(number)
 }
 
-fn named(names: &Names, name: &str, of: Field) -> Result<u32, Refusal> {
-    let rank = names.number(name).ok_or(Refusal::CHILD)?;
+/// Numbers of names that were found: a search judges the whole table, so nodes that come together have each name sought once.
+#[derive(Default)]
+pub(crate) struct Known(HashMap<String, u32>);
+
+impl Known {
+    fn number(&mut self, names: &Names, name: &str) -> Result<u32, Refusal> {
+        if let Some(&number) = self.0.get(name) {
+            return Ok(number);
+        }
+        let number = names.find(name).map_err(|_| Refusal::CHILD)?;
+        self.0.insert(name.to_string(), number);
+        Ok(number)
+    }
+}
+
+fn named(names: &Names, known: &mut Known, name: &str, of: Field) -> Result<u32, Refusal> {
+    let rank = known.number(names, name)?;
     let optional = if of.optional { OPTIONAL } else { 0 };
     Ok(field(rank, number(of.ty)?) | optional)
 }
 
-fn set(names: &Names, attrs: &AttrSetTy) -> Result<Vec<u32>, Refusal> {
+fn set(names: &Names, known: &mut Known, attrs: &AttrSetTy) -> Result<Vec<u32>, Refusal> {
     // Said here, since 3 comes before the 4 of a name or child that has no word.
     if attrs.fields.len() > MOST {
         return Err(Refusal::NODE);
     }
     let mut body = Vec::new();
     for (name, &of) in &attrs.fields {
-        body.push(named(names, name, of)?);
+        body.push(named(names, known, name, of)?);
     }
     if let Some(ty) = attrs.dyn_ty {
         body.push(number(ty)?);
@@ -52,8 +69,8 @@ fn members(kind: u32, list: &[TyRef]) -> Result<Vec<u32>, Refusal> {
     Ok(node(kind, body?))
 }
 
-/// The words of a node; 3 or 4 if it has none.
-pub(crate) fn encode(names: &Names, ty: &OutputTy) -> Result<Vec<u32>, Refusal> {
+/// The words of a node; 3 or 4 if it has none. Of the same names all numbers are known that were found before.
+pub(crate) fn encode(names: &Names, known: &mut Known, ty: &OutputTy) -> Result<Vec<u32>, Refusal> {
     Ok(match ty {
         OutputTy::Bottom => node(BOTTOM, vec![]),
         OutputTy::Top => node(TOP, vec![]),
@@ -61,11 +78,12 @@ pub(crate) fn encode(names: &Names, ty: &OutputTy) -> Result<Vec<u32>, Refusal> 
         OutputTy::TyVar(index) => node(TYVAR, vec![*index]),
         OutputTy::List(inner) => node(LIST, vec![number(*inner)?]),
         OutputTy::Lambda { param, body } => node(LAMBDA, vec![number(*param)?, number(*body)?]),
-        OutputTy::AttrSet(attrs) => set(names, attrs)?,
+        OutputTy::AttrSet(attrs) => set(names, known, attrs)?,
         OutputTy::Union(list) => members(UNION, list)?,
         OutputTy::Intersection(list) => members(INTERSECTION, list)?,
         OutputTy::Named(name, inner) => {
-            node(NAMED, vec![named(names, name, Field::required(*inner))?])
+            let field = Field::required(*inner);
+            node(NAMED, vec![named(names, known, name, field)?])
         }
         OutputTy::Neg(inner) => node(NEG, vec![number(*inner)?]),
     })

@@ -14,6 +14,7 @@ use reference::{Reply, NODES, TEXT, WORDS};
 
 use crate::build::{self, names, names_by, names_of_bytes, printable, Build};
 use crate::damage;
+use crate::lookup;
 use crate::random::Random;
 use crate::shapes::{aliases, full_of_words, lambdas, shape, shape_in, Shape};
 use crate::spelled;
@@ -41,6 +42,7 @@ pub fn case(op: u8, random: &mut Random) -> Case {
         22 => name_at(random),
         23 => display(Case::DisplayNix, calls::display_nix, calls::display, random),
         24 => Case::Convert(sheet(OLD, NEW, random)),
+        25 => lookup::find_name(random),
         _ => panic!("no operation {op}"),
     }
 }
@@ -359,13 +361,7 @@ fn table(random: &mut Random, faulty: usize) -> (Vec<u8>, usize) {
             names(random, count)
         }
     };
-    let mut table = build::table(&names);
-    if random.percent(faulty) {
-        for _ in 0..random.pick(&[1, 1, 2, 3]) {
-            damage::table(&mut table, random);
-        }
-    }
-    (table, names.len())
+    (damage::table_of(&names, faulty, random), names.len())
 }
 
 /// Mostly a name that the table has, else one of the next, or any number.

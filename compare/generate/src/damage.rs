@@ -5,6 +5,7 @@ use reference::case::Host;
 use reference::layout::{Layout, CHILD, NEW};
 use reference::{NODES, WORDS};
 
+use crate::build;
 use crate::random::Random;
 
 /// One to three faults of what a host lends.
@@ -16,6 +17,17 @@ pub fn host(host: &mut Host, random: &mut Random) {
             memory(host, random);
         }
     }
+}
+
+/// The table of these names, so many in a hundred with one to three faults.
+pub fn table_of(names: &[Vec<u8>], faulty: usize, random: &mut Random) -> Vec<u8> {
+    let mut bytes = build::table(names);
+    if random.percent(faulty) {
+        for _ in 0..random.pick(&[1, 1, 2, 3]) {
+            table(&mut bytes, random);
+        }
+    }
+    bytes
 }
 
 /// Breaks a rule of tables, or nearly.

@@ -10,7 +10,7 @@ use reference::node::{Field, Node};
 use reference::spelling::RESERVED;
 use reference::{MEMBERS, NODES, TEXT, WORDS};
 
-use crate::build::Build;
+use crate::build::{table, Build};
 use crate::cases::Print;
 use crate::shapes::Shape;
 use crate::spelled::{long, FREE, LENGTHS};
@@ -50,6 +50,7 @@ pub fn cases(op: u8) -> Vec<Case> {
         22 => places(),
         23 => texts(Case::DisplayNix, calls::display_nix),
         24 => sheets(OLD, Case::Convert),
+        25 => lookups(),
         _ => panic!("no operation {op}"),
     }
 }
@@ -165,6 +166,109 @@ fn places() -> Vec<Case> {
         numbers.map(|number| Case::NameAt(table.table(), number))
     };
     tables().chain([longest]).flat_map(places).collect()
+}
+
+/// Texts sought in tables of every limit; in tables of up to 17 names each name and a text behind each, in a full one some; each
+/// byte among all names of one byte; and names of a table sought in another.
+fn lookups() -> Vec<Case> {
+    let mut cases = Vec::new();
+    for Build { names, .. } in tables() {
+        cases.extend(sought(&names, at_ends(&names)));
+    }
+    cases.extend(sought(&numbered(2).names, vec![vec![b'A'; 65_537]]));
+    for count in 0..=17 {
+        let names = numbered(count).names;
+        cases.extend(sought(&names, with_texts_behind(&names)));
+    }
+    let fronts = full_of_fronts();
+    let some: Vec<Vec<u8>> = fronts.iter().step_by(127).cloned().collect();
+    cases.extend(sought(&fronts, with_texts_behind(&some)));
+    let bytes: Vec<Vec<u8>> = (0..=255).map(|byte| vec![byte]).collect();
+    cases.extend(sought(&bytes[32..=126], bytes.clone()));
+    cases.extend(of_others());
+    cases
+}
+
+/// These names, a text behind each, and the text of no byte.
+fn with_texts_behind(names: &[Vec<u8>]) -> Vec<Vec<u8>> {
+    let behind = names.iter().map(|name| [name, &b" "[..]].concat());
+    let texts = names.iter().cloned().chain(behind);
+    texts.chain([vec![]]).collect()
+}
+
+/// 4,096 names that begin with one another: all of one to eleven letters `a` and `b`, and two more.
+fn full_of_fronts() -> Vec<Vec<u8>> {
+    let letter = |number: usize, at: usize| b'a' + (number >> at & 1) as u8;
+    let name = |number, length| (0..length).map(|at| letter(number, at)).collect();
+    let all = (1..=11).flat_map(|length| (0..1 << length).map(move |number| (number, length)));
+    let mut names: Vec<Vec<u8>> = all.map(|(number, length)| name(number, length)).collect();
+    names.extend([b"c".to_vec(), b"d".to_vec()]);
+    names.sort();
+    names
+}
+
+/// Every name of a part of 24 names sought in each part, and some names of a full table sought in it and in a full one that has
+/// none of them.
+fn of_others() -> Vec<Case> {
+    let mut cases = Vec::new();
+    let parts = parts();
+    for first in &parts {
+        for second in &parts {
+            cases.extend(sought(first, second.clone()));
+        }
+    }
+    let all = numbered(2 * NEW.names).names;
+    let [even, odd] = [0, 1].map(|first| -> Vec<Vec<u8>> {
+        let every_second = all.iter().skip(first).step_by(2);
+        every_second.cloned().collect()
+    });
+    let some: Vec<Vec<u8>> = even.iter().step_by(127).cloned().collect();
+    for full in [&even, &odd] {
+        cases.extend(sought(full, some.clone()));
+    }
+    cases
+}
+
+fn sought(names: &[Vec<u8>], texts: Vec<Vec<u8>>) -> Vec<Case> {
+    let table = table(names);
+    let case = |text| Case::FindName(table.clone(), text);
+    texts.into_iter().map(case).collect()
+}
+
+/// Texts before all names and after all; the first name, the last and one between, a front of each, the same with a byte more or
+/// 256 more, or behind its length byte.
+fn at_ends(names: &[Vec<u8>]) -> Vec<Vec<u8>> {
+    let mut texts = vec![vec![], vec![0], vec![b'~'; 65], vec![255; 300]];
+    let places = [0, names.len() / 2, names.len().saturating_sub(1)];
+    for name in places.into_iter().filter_map(|place| names.get(place)) {
+        let length = name.len();
+        texts.push(name.clone());
+        texts.push(name[..length - 1].to_vec());
+        texts.push([name, &b" "[..]].concat());
+        texts.push([name, &[b'x'; 256][..]].concat());
+        texts.push([&[length as u8], &name[..]].concat());
+    }
+    texts
+}
+
+/// Parts of 24 names that begin with one another: all, none, every second (the others too), those of either end, every third.
+fn parts() -> Vec<Vec<Vec<u8>>> {
+    let lengths = (1..=12).flat_map(|n| [vec![b'a'; n], [vec![b'a'; n], vec![b'b']].concat()]);
+    let all: BTreeSet<Vec<u8>> = lengths.collect();
+    let part = |keep: fn(usize) -> bool| {
+        let kept = all.iter().enumerate().filter(|(number, _)| keep(*number));
+        kept.map(|(_, name)| name.clone()).collect()
+    };
+    let kept: [fn(usize) -> bool; 7] = [
+        |_| true,
+        |_| false,
+        |n| n % 2 == 0,
+        |n| n % 2 == 1,
+        |n| n < 12,
+        |n| n >= 12,
+        |n| n % 3 == 0,
+    ];
+    kept.map(part).into()
 }
 
 /// The types, each with its arena: a, b, `never`, `any`, `int`, `null` and `bool` are nodes 0 to 6.

@@ -8,6 +8,7 @@ mod build;
 mod cases;
 mod damage;
 mod fixed;
+mod lookup;
 mod random;
 mod shapes;
 mod short;

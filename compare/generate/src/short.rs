@@ -4,7 +4,7 @@ use reference::case::{Case, Host};
 use reference::layout::{Layout, NEW, OLD};
 use reference::node::{Field, Node};
 
-use crate::build::Build;
+use crate::build::{table, Build};
 
 pub fn cases(op: u8) -> Vec<Case> {
     match op {
@@ -27,6 +27,7 @@ pub fn cases(op: u8) -> Vec<Case> {
             .collect(),
         23 => texts(Case::DisplayNix),
         24 => sheets(OLD, Case::Convert),
+        25 => lookups(),
         _ => panic!("no operation {op}"),
     }
 }
@@ -193,6 +194,27 @@ fn names() -> Vec<Case> {
     pairs
         .map(|(left, right)| Case::Names(left.clone(), right.clone()))
         .collect()
+}
+
+/// Tables of up to four bytes, and all tables of names of one and two bytes of space, `a` and `~`, with short texts.
+fn lookups() -> Vec<Case> {
+    let sought = |table: &Vec<u8>, texts: &[Vec<u8>]| -> Vec<Case> {
+        let case = |text: &Vec<u8>| Case::FindName(table.clone(), text.clone());
+        texts.iter().map(case).collect()
+    };
+    let bytes: Vec<Vec<u8>> = lists(&[31, 32, 126, 127], 1).collect();
+    let any = lists(&[0, 1, 2, 31, 32, 126, 127], 4);
+    let mut cases: Vec<Case> = any.flat_map(|table| sought(&table, &bytes)).collect();
+    let texts: Vec<Vec<u8>> = lists(b" a~", 2).collect();
+    let mut names = texts[1..].to_vec();
+    names.sort();
+    for chosen in 0..1 << names.len() {
+        let is_chosen = |at: &usize| chosen >> at & 1 == 1;
+        let some = (0..names.len()).filter(is_chosen);
+        let some: Vec<Vec<u8>> = some.map(|at| names[at].clone()).collect();
+        cases.extend(sought(&table(&some), &texts));
+    }
+    cases
 }
 
 /// Two good sheets of a layout, every front of them, and every copy with one bit turned.

@@ -37,6 +37,7 @@ pub fn answer(case: &Case) -> Answer {
         Case::Display(host, root, room) => said(calls::display(host, *root, *room).map(text)),
         Case::Table(bytes) => said(table::check(bytes).map(|names| format!("ok {}", names.len()))),
         Case::NameAt(table, number) => said(table::place(table, *number).map(stretch)),
+        Case::FindName(table, text) => said(table::find(table, text).map(sought)),
         Case::Names(left, right) => order(left.cmp(right)),
         Case::Sheet(bytes) => said(sheet::line(NEW, bytes, left)),
         Case::Convert(bytes) => converted(bytes, left),
@@ -104,6 +105,13 @@ fn order(order: Ordering) -> String {
 
 fn stretch(place: Range<usize>) -> String {
     format!("ok {} {}", place.start, place.len())
+}
+
+fn sought(found: Result<usize, usize>) -> String {
+    match found {
+        Ok(number) => format!("found {number}"),
+        Err(before) => format!("absent {before}"),
+    }
 }
 
 fn text(text: impl AsRef<[u8]>) -> String {

@@ -19,6 +19,8 @@ pub enum Case {
     Table(Vec<u8>),
     /// A table and the number of a name.
     NameAt(Vec<u8>, u32),
+    /// A table and a text that is sought in it.
+    FindName(Vec<u8>, Vec<u8>),
     Names(Vec<u8>, Vec<u8>),
     Sheet(Vec<u8>),
     /// An old sheet.
@@ -33,8 +35,8 @@ pub enum Case {
 }
 
 /// The numbers of the operations, all that there are.
-pub const OPS: [u8; 24] = [
-    1, 2, 3, 4, 5, 6, 7, 8, 9, 10, 11, 12, 13, 14, 15, 16, 17, 18, 19, 20, 21, 22, 23, 24,
+pub const OPS: [u8; 25] = [
+    1, 2, 3, 4, 5, 6, 7, 8, 9, 10, 11, 12, 13, 14, 15, 16, 17, 18, 19, 20, 21, 22, 23, 24, 25,
 ];
 
 /// Cases are taken from the front.
@@ -116,6 +118,7 @@ impl Iterator for Reader<'_> {
             22 => Case::NameAt(self.text(4), self.word()),
             23 => Case::DisplayNix(self.host(), self.word(), self.word()),
             24 => Case::Convert(self.text(4)),
+            25 => Case::FindName(self.text(4), self.text(4)),
             op => panic!("no operation {op}"),
         })
     }
@@ -191,6 +194,7 @@ impl Case {
             Case::NameAt(..) => 22,
             Case::DisplayNix(..) => 23,
             Case::Convert(_) => 24,
+            Case::FindName(..) => 25,
         }
     }
 
@@ -228,6 +232,10 @@ impl Case {
             Case::NameAt(table, number) => {
                 to.text(table, 4);
                 to.word(*number);
+            }
+            Case::FindName(table, text) => {
+                to.text(table, 4);
+                to.text(text, 4);
             }
             Case::Names(left, right) => {
                 to.text(left, 1);

@@ -38,6 +38,20 @@ pub fn place(bytes: &[u8], number: u32) -> Reply<Range<usize>> {
     Ok(start..start + length)
 }
 
+/// The number of the name that is this text; where none is, how many names come before the text; or refusal 1.
+pub fn find(bytes: &[u8], text: &[u8]) -> Reply<Result<usize, usize>> {
+    let names = check(bytes)?;
+    let number = names.iter().position(|name| name.as_bytes() == text);
+    let earlier = names.iter().filter(|name| before(name.as_bytes(), text));
+    Ok(number.ok_or_else(|| earlier.count()))
+}
+
+/// Whether a name comes before a text: the first byte that differs is less, or the text goes on where the name ends.
+fn before(name: &[u8], text: &[u8]) -> bool {
+    let differing = name.iter().zip(text).find(|(one, other)| one != other);
+    differing.map_or(name.len() < text.len(), |(one, other)| one < other)
+}
+
 pub fn length_fits(length: usize) -> bool {
     (1..=LENGTH).contains(&length)
 }
@@ -90,14 +104,56 @@ mod tests {
         }
     }
 
+    /// Texts that are names, texts between them, before all and after all, and texts that can be no name.
+    #[test]
+    fn finds() {
+        let table = b"\x01a\x02ab\x03abc\x01b";
+        for (number, name) in [&b"a"[..], b"ab", b"abc", b"b"].into_iter().enumerate() {
+            assert_eq!(find(table, name), Ok(Ok(number)), "{name:?}");
+        }
+        for (text, earlier) in [
+            (&b""[..], 0),
+            (b"A", 0),
+            (b"\x01a", 0),
+            (b"a\0", 1),
+            (b"aa", 1),
+            (b"ab\xff", 3),
+            (b"abcd", 3),
+            (b"ac", 3),
+            (b"b\0", 4),
+            (b"ba", 4),
+            (b"\xff", 4),
+        ] {
+            assert_eq!(find(table, text), Ok(Err(earlier)), "{text:?}");
+        }
+        assert_eq!(find(table, &[b'a'; 65]), Ok(Err(1)));
+        assert_eq!(find(b"", b""), Ok(Err(0)));
+        assert_eq!(find(b"", b"a"), Ok(Err(0)));
+        assert_eq!(find(b"\x01a\x01", b"a"), Err(1), "before the text");
+    }
+
+    /// So many names of two bytes.
+    fn pairs(count: u32) -> Vec<u8> {
+        let name = |i: u32| [2, 32 + (i / 90) as u8, 32 + (i % 90) as u8];
+        (0..count).flat_map(name).collect()
+    }
+
     #[test]
     fn at_most_4096_names() {
-        let table = |n: u32| -> Vec<u8> {
-            let name = |i: u32| [2, 32 + (i / 90) as u8, 32 + (i % 90) as u8];
-            (0..n).flat_map(name).collect()
-        };
-        assert_eq!(check(&table(4096)).unwrap().len(), 4096);
-        assert_eq!(check(&table(4097)), Err(1));
+        assert_eq!(check(&pairs(4096)).unwrap().len(), 4096);
+        assert_eq!(check(&pairs(4097)), Err(1));
+    }
+
+    /// In a full table each name is found, and a text that is a name and a byte more stands behind that name.
+    #[test]
+    fn finds_among_4096_names() {
+        let table = pairs(4096);
+        for (number, entry) in table.chunks(3).enumerate().step_by(39) {
+            assert_eq!(find(&table, &entry[1..]), Ok(Ok(number)));
+            let longer = [&entry[1..], b" "].concat();
+            assert_eq!(find(&table, &longer), Ok(Err(number + 1)));
+        }
+        assert_eq!(find(&pairs(4097), b"  "), Err(1));
     }
 
     /// 1,008 names of 64 bytes take 65,520, and a last one of 15 the rest.

@@ -117,6 +117,16 @@ fn equal() {
     assert_eq!(equal((arena(), 1), (other(), 1)), "refused 6");
 }
 
+#[test]
+fn find_name() {
+    let find = |table: &[u8], text: &[u8]| line(Case::FindName(table.to_vec(), text.to_vec()));
+    assert_eq!(find(b"\x01b\x02bb", b"bb"), "found 1");
+    assert_eq!(find(b"\x01b\x02bb", b"ba"), "absent 1");
+    assert_eq!(find(b"\x01b\x02bb", &[b'b'; 300]), "absent 2");
+    assert_eq!(find(b"", b""), "absent 0");
+    assert_eq!(find(b"\x02b", b"b"), "refused 1");
+}
+
 /// A list's 65th member comes before a later member's new node, but an earlier one's comes first.
 #[test]
 fn set_ops() {

@@ -8,13 +8,11 @@ use native.Mathlib.Numerals.{add-one}
 use lib.ListN.{length, getD, take, drop, set, replicate, length-append, length-set, length-replicate, take-append-drop}
 use lib.Seq.{take-length, drop-length, drop-cons, set-at, drop-append-le, length-take-le}
 use borrow.Author.Tests.{le-leb, lt-leb}
-use Rattle.bits.proofs.Sets.{zero-at}
 use Rattle.types.specs.Out.{ok, refuse}
 use Rattle.types.specs.Arena.{Arena}
 use Rattle.types.specs.declared.Counters.{Counters}
 use Rattle.types.proofs.Memories.{unique}
 use Rattle.names.specs.Table.{split}
-use Rattle.names.specs.Inner.{Listable, Unplaced}
 use Rattle.soundness.specs.Inner.Sound.{lent-reply, judged-out}
 use Rattle.soundness.specs.declared.Judged.{Judged}
 use Rattle.soundness.specs.declared.Judged.the-variants as verdict
@@ -30,10 +28,6 @@ use Rattle.display.specs.Reply.{reply, displaying, reply-of, print-reply
 use Rattle.display.specs.Inner.{Displays, DisplaysRoot}
 use Rattle.display.specs.declared.Displayed.{Displayed}
 use Rattle.display.specs.declared.Displayed.the-variants as displayed
-
--- no name has its place in a list of zeros
-pub unplaced : {t : List ℕ} → Listable t → Unplaced t (replicate 4096 0)
-unplaced L = record { listable = L; long = length-replicate {A = ℕ} 4096 0; none = zero-at 4096 }
 
 -- ---- zeros, one by one
 pub record Clearing (b b′ : List ℕ) (i : ℕ) : Type 0 where

@@ -14,6 +14,7 @@ use Rattle.types.specs.Reply.{Reply, reply, reply-of, tabled, judged}
 use Rattle.types.specs.declared.Counters.{Counters}
 use Rattle.names.specs.Table.{Name, split, names-of}
 use Rattle.names.specs.Reply.{table-reply, stretch, name-reply}
+use Rattle.name_lookup.specs.Lookup.{position, find-reply}
 use Rattle.node_order.specs.NodeOrder.{node-order}
 use Rattle.arena.specs.Intern.{interning, intern-reply}
 use Rattle.arena.specs.Compare.{comparing, compare-reply}
@@ -35,7 +36,7 @@ use Rattle.set_op_lists.specs.SetOps.{normalize-set-ops}
 use Rattle.simplify.specs.Simplify.{answered, simplify-reply}
 use Rattle.compact.specs.Compact.{over-limit, limited, cleared, empty, source, compacted, compact-reply}
 use Rattle.lang_ty.specs.Theorems.{ToldZero, ArenaZero}
-use Rattle.lang_ty.specs.Told.{as-number}
+use Rattle.lang_ty.specs.Told.{told-as}
 use Rattle.lang_ty.specs.Numbered.{Numbered, value, refusal, Converted, done, eleven, answer-of, length-of}
 use Rattle.lang_ty.specs.Theorems.{AllNumbered}
 use Rattle.lang_ty.proofs.Numbers.{NumberedJob, refusal-high, refusal-low, by-test, required-numbered, then-numbered, rooted-numbered, intern-numbered}
@@ -62,6 +63,10 @@ table-numbered t = required-numbered (omega arith) (omega arith) (names-of t) (�
 name-numbered : (t : List ℕ) (number : ℕ) → Numbered (name-reply t number)
 unfolding name-reply
 name-numbered t number = required-numbered (omega arith) (omega arith) (names-of t) (λ ns. by-test Numbered (ltb number (length ns)) (value (stretch ns number)) (refusal (omega arith) (omega arith)))
+
+find-numbered : (t x : List ℕ) → Numbered (find-reply t x)
+unfolding find-reply
+find-numbered t x = required-numbered (omega arith) (omega arith) (names-of t) (λ ns. value (position ns x))
 
 pub compare-numbered : (t w s : List ℕ) (c : Counters) (m n : ℕ) → Numbered (compare-reply t w s c m n)
 unfolding compare-reply comparing
@@ -116,9 +121,9 @@ convert-numbered : (b : List ℕ) → Converted (length-of (convert-reply b))
 unfolding convert-reply
 convert-numbered b = converting-numbered b (read-sheet-in layout.Old b)
 
--- an answer told as a number
-pub as-number-numbered : {A : Type 0} (f : A → ℕ) {o : Out A} → Numbered o → Numbered (as-number f o)
-as-number-numbered f N = then-numbered N (λ x. value (f x))
+-- an answer told in another way
+pub told-as-numbered : {A B : Type 0} (f : A → B) {o : Out A} → Numbered o → Numbered (told-as f o)
+told-as-numbered f N = then-numbered N (λ x. value (f x))
 
 -- ---- calls that change an arena
 decode-numbered : (table nodes : ℕ) (ws : List ℕ) → Numbered (decode table nodes ws)
@@ -160,6 +165,7 @@ pub all-numbered : AllNumbered
 all-numbered = record {
   table = table-numbered;
   name = name-numbered;
+  find-name = find-numbered;
   compare = compare-numbered;
   ask = ask-numbered;
   equal = equal-numbered;

@@ -1,11 +1,14 @@
 -- From what a call is defined to answer to what a host is told: one law for a value and one for a refusal.
 use Prim.Native.Nat.{ℕ}
-use mathlib.Core.Path.{_≡_, sym, ap, _∙_}
+use mathlib.Core.Path.{_≡_, refl, sym, ap, _∙_}
+use mathlib.Core.Bool.{Bool, true, false}
 use mathlib.Core.List.{List}
+use mir.Val.{boolByte}
+use Rattle.words.specs.Words.{bit}
 use Rattle.types.specs.Out.{Out, ok, refuse, number, _>>=_}
 use Rattle.types.specs.Reply.{Reply, reply}
 use Rattle.types.specs.declared.Counters.{Counters}
-use Rattle.lang_ty.specs.Told.{or-left, told, tell, told-arena, tell-arena, as-number}
+use Rattle.lang_ty.specs.Told.{or-left, told, tell, told-arena, tell-arena, told-as}
 
 module _ {R A : Type 0} (f : R → Out A) {r : R} {o : Out A} (e : f r ≡ o) {s : R} (p : r ≡ s) where
   known : {q : Out A} → f s ≡ q → o ≡ q
@@ -21,15 +24,20 @@ module _ {R A : Type 0} (f : R → Out A) {r : R} {o : Out A} (e : f r ≡ o) {s
   pub tell-refused : {n : ℕ} → f s ≡ refuse n → {u : ℕ} → u ≡ number (f r) → (old : A) → told u old ≡ tell old o
   tell-refused g k old = ap (λ (m : ℕ). told m old) (by-number g k) ∙ sym (ap (tell old) (known g))
 
-  -- the same where the answer is told as a number
-  module _ (g : A → ℕ) where
-    pub tell-number : {x : A} → f s ≡ ok x → {k : ℕ} → k ≡ g x → (old : ℕ) → told 0 k ≡ tell old (as-number g o)
+  -- the same where the answer is told in another way
+  module _ {B : Type 0} (g : A → B) where
+    pub tell-number : {x : A} → f s ≡ ok x → {k : B} → k ≡ g x → (old : B) → told 0 k ≡ tell old (told-as g o)
     unfolding _>>=_
-    tell-number u h old = ap (told 0) h ∙ sym (ap (λ (q : Out A). tell old (as-number g q)) (known u))
+    tell-number u h old = ap (told 0) h ∙ sym (ap (λ (q : Out A). tell old (told-as g q)) (known u))
 
-    pub tell-no-number : {n : ℕ} → f s ≡ refuse n → {u : ℕ} → u ≡ number (f r) → (old : ℕ) → told u old ≡ tell old (as-number g o)
+    pub tell-no-number : {n : ℕ} → f s ≡ refuse n → {u : ℕ} → u ≡ number (f r) → (old : B) → told u old ≡ tell old (told-as g o)
     unfolding _>>=_
-    tell-no-number h k old = ap (λ (m : ℕ). told m old) (by-number h k) ∙ sym (ap (λ (q : Out A). tell old (as-number g q)) (known h))
+    tell-no-number h k old = ap (λ (m : ℕ). told m old) (by-number h k) ∙ sym (ap (λ (q : Out A). tell old (told-as g q)) (known h))
+
+-- a yes or no, as the program makes it a number
+pub byte-bit : (b : Bool) → boolByte b ≡ bit b
+byte-bit true = refl
+byte-bit false = refl
 
 -- an answer of an enum, its case v, in the reply of a call that changes an arena
 module _ {E : Type 0} (f : E → Out ℕ) {a : E} {d : Counters} {w s : List ℕ} {y : Reply ℕ} (h : reply (f a) d w s ≡ y) (old : ℕ) where

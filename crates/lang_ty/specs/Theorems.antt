@@ -17,6 +17,7 @@ use Rattle.walks.specs.Asked.{ask-reply}
 use Rattle.questions.specs.Vars.{has-type-vars}
 use Rattle.names.specs.Table.{split}
 use Rattle.names.specs.Reply.{table-reply, name-reply}
+use Rattle.name_lookup.specs.Lookup.{find-reply}
 use Rattle.arena.specs.Intern.{intern-reply}
 use Rattle.arena.specs.Compare.{compare-reply}
 use Rattle.text_writing.specs.Theorems.{PlainType}
@@ -63,6 +64,7 @@ PlainPrintsAlike =
 pub record AllNumbered : Type 1 where
   pub table : (t : List ℕ) → Numbered (table-reply t)
   pub name : (t : List ℕ) (number : ℕ) → Numbered (name-reply t number)
+  pub find-name : (t x : List ℕ) → Numbered (find-reply t x)
   pub compare : (t w s : List ℕ) (c : Counters) (m n : ℕ) → Numbered (compare-reply t w s c m n)
   pub ask : {A : Type 0} (q : Arena → ℕ → A) (t w s : List ℕ) (c : Counters) (root : ℕ) → Numbered (ask-reply q t w s c root)
   pub equal : (t w s : List ℕ) (c : Counters) (m : ℕ) (u v r : List ℕ) (d : Counters) (n : ℕ) → Numbered (equal-reply t w s c m u v r d n)

@@ -2,12 +2,14 @@
 -- number"): a number, which is 0 or that of a refusal, and lent memory.
 use Prim.Native.Nat.{ℕ}
 use mathlib.Core.List.{List}
+use Rattle.words.specs.Words.{bit}
 use Rattle.types.specs.Out.{Out, ok, refuse, number, _>>=_}
 use Rattle.types.specs.Reply.{Reply, reply}
 use Rattle.display.specs.Reply as text
 use Rattle.types.specs.declared.Counters.{Counters}
 use Rattle.types.specs.declared.Ordering.{Ordering}
 use Rattle.types.specs.declared.Ordering.the-variants as ordering
+use Rattle.name_lookup.specs.declared.Position.{Position}
 
 -- what stands where a result is lent: a refusal leaves what stood there
 abbrev pub or-left : {A : Type 0} → A → Out A → A
@@ -45,6 +47,19 @@ order-number ordering.Less = 0
 order-number ordering.Equal = 1
 order-number ordering.Greater = 2
 
--- an answer told as a number
+-- an answer told in another way
+abbrev pub told-as : {A B : Type 0} → (A → B) → Out A → Out B
+told-as f o = o >>= λ x. ok (f x)
+
+-- as a number
 abbrev pub as-number : {A : Type 0} → (A → ℕ) → Out A → Out ℕ
-as-number f o = o >>= λ x. ok (f x)
+as-number f o = told-as f o
+
+-- where a text stands, in the two numbers of the header (host/lang_ty.h; 02, A3): 1 and the number of the name that is the text, or 0 and
+-- how many names come before it
+pub record FoundPlace : Type 0 where
+  pub found : ℕ
+  pub place : ℕ
+
+abbrev pub in-numbers : Position → FoundPlace
+in-numbers p = record { found = bit (p .found); place = p .place }

@@ -1,4 +1,5 @@
 pub mod Storing
 pub mod Orders
+pub mod Positions
 pub mod Lengths
 pub mod Converting

@@ -8,6 +8,8 @@ use display::display;
 use display::display_nix;
 use lent_counters::Stored;
 use lent_counters::intern_lent_pair;
+use name_lookup::Lookup;
+use name_lookup::find_name;
 use names::Placed;
 use names::Table;
 use names::check_names;
@@ -26,13 +28,15 @@ ghost use Rattle.types.specs.Short.{short-text};
 ghost use Rattle.types.specs.Tyvar.{tyvar-name};
 ghost use Rattle.names.specs.Table.{name-order};
 ghost use Rattle.names.specs.Reply.{table-reply, table-out, name-reply, placed-out};
+ghost use Rattle.name_lookup.specs.Lookup.{find-reply, lookup-out};
 ghost use Rattle.arena.specs.Intern.{intern-reply};
 ghost use Rattle.arena.specs.Compare.{compare-reply, compared-out};
 ghost use Rattle.display.specs.Reply.{display-reply, display-nix-reply, displayed-out};
 ghost use Rattle.sheet_writing.specs.Reply.{write-sheet-reply, written-out};
 ghost use Rattle.sheet_converting.specs.Convert.{convert-reply};
 ghost use Rattle.sheet_format.specs.Line.{WritesLine};
-ghost use Rattle.lang_ty.specs.Told.{told, tell, told-arena, tell-arena, told-text, tell-text, tell-converted, as-number, order-number};
+ghost use Rattle.lang_ty.specs.Told.{told, tell, told-as, as-number, order-number, in-numbers};
+ghost use Rattle.lang_ty.specs.Told.{told-arena, tell-arena, told-text, tell-text, tell-converted};
 
 // The number of the node with these words, which is added where the arena has none.
 #[no_mangle]
@@ -108,6 +112,37 @@ pub extern "C" fn lang_ty_name_at(
     };
     *start = text.start;
     *length = text.length;
+    0
+}
+
+// The number of a refused search for a text.
+fn lookup_refusal(answer: Lookup) -> u32
+    ensures { λ r. ⌜ r ≡ refusal-number (lookup-out answer) ⌝ }
+{
+    match answer {
+        Lookup::At(_) => 0,
+        Lookup::Refused(e) => e,
+    }
+}
+
+// Whether a name of the table is the text, and that name's number or how many names come before the text.
+#[no_mangle]
+pub extern "C" fn lang_ty_find_name(
+    table: &[u8],
+    text: &[u8],
+    found: &mut u32,
+    place: &mut u32,
+) -> u32
+    ensures { λ r. ⌜ told r record { found = now (found .exit); place = now (place .exit) }
+        ≡ tell record { found = now (found .entry); place = now (place .entry) }
+        (told-as in-numbers (find-reply (now (table .entry)) (now (text .entry)))) ⌝ }
+{
+    let answer = find_name(table, text);
+    let Lookup::At(position) = answer else {
+        return lookup_refusal(answer);
+    };
+    *found = position.found as u32;
+    *place = position.place;
     0
 }
 

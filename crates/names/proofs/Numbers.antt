@@ -8,18 +8,18 @@ use native.Mathlib.Omega.{arith}
 use native.Mathlib.Nat.{le-of-suc-le-suc}
 use lib.ListN.{length, getD, List·getD-eq-default}
 use Rattle.words.specs.declared.Layout.the-variants as layout
-use Rattle.types.specs.Order.{TotalOrder, is-less, reversed}
+use Rattle.types.specs.Order.{is-less, reversed}
 use Rattle.types.specs.declared.Ordering.{Ordering}
 use Rattle.types.specs.declared.Ordering.the-variants.{Less, Equal, Greater}
 use Rattle.types.proofs.Tests.{true-false, and-true}
 use Rattle.types.proofs.Orders.{order-total, order-less, order-equal, order-greater, compared, lexicographic-total}
 use Rattle.names.specs.Table.{Name, name-order, rising, good-name, all-good, names-of, name-text}
-use Rattle.names.specs.Theorems.{NumberOrder}
+use Rattle.names.specs.Theorems.{NameOrderTotal, NumberOrder}
 use Rattle.names.proofs.Tables.{names-of-is, name-text-is}
 use Rattle.names.proofs.Rules.{Rules, good-rules, GoodName, good-name-is, rising-rest}
 
 -- ---- names by their order
-pub name-order-total : TotalOrder name-order
+pub name-order-total : NameOrderTotal
 unfolding name-order
 name-order-total = lexicographic-total order-total
 
@@ -39,7 +39,7 @@ all-good-at [] e k h = absurd (omega arith)
 all-good-at (n ∷ ns) e zero h = and-true (good-name n) (all-good ns) e .0
 all-good-at (n ∷ ns) e (suc k) h = all-good-at ns (and-true (good-name n) (all-good ns) e .1) k (le-of-suc-le-suc h)
 
-rising-first : (ns : List Name) (m : Name) → rising (m ∷ ns) ≡ true → (k : ℕ) → k < length ns → name-order m (getD ns k []) ≡ Less
+pub rising-first : (ns : List Name) (m : Name) → rising (m ∷ ns) ≡ true → (k : ℕ) → k < length ns → name-order m (getD ns k []) ≡ Less
 unfolding rising
 rising-first [] m e k h = absurd (omega arith)
 rising-first (n ∷ ns) m e zero h = less-true _ (and-true (is-less (name-order m n)) (rising (n ∷ ns)) e .0)
@@ -47,7 +47,7 @@ rising-first (n ∷ ns) m e (suc k) h =
     let p = and-true (is-less (name-order m n)) (rising (n ∷ ns)) e in
     name-order-total .trans m n (getD ns k []) (less-true _ (p .0)) (rising-first ns n (p .1) k (le-of-suc-le-suc h))
 
-rising-at : (ns : List Name) → rising ns ≡ true → (i j : ℕ) → i < j → j < length ns → name-order (getD ns i []) (getD ns j []) ≡ Less
+pub rising-at : (ns : List Name) → rising ns ≡ true → (i j : ℕ) → i < j → j < length ns → name-order (getD ns i []) (getD ns j []) ≡ Less
 rising-at [] e i j l h = absurd (omega arith)
 rising-at (n ∷ ns) e i zero l h = absurd (omega arith)
 rising-at (n ∷ ns) e zero (suc j) l h = rising-first ns n e j (le-of-suc-le-suc h)

@@ -5,11 +5,12 @@ use mathlib.Core.Bool.{Bool, true, false}
 use mathlib.Core.List.{List, []}
 use native.Mathlib.Omega.{arith}
 use native.Mathlib.Numerals.{add-one}
-use lib.ListN.{length, getD, set, drop, length-set, length-drop, drop-of-length-le, List·getD-eq-default}
+use lib.ListN.{length, getD, set, drop, replicate, length-set, length-drop, length-replicate, getD-replicate, drop-of-length-le, List·getD-eq-default}
 use lib.Seq.{drop-drop, getD-set-same, getD-set-other}
 use lib.Dec.{ltb, eqb}
 use borrow.Author.Tests.{ltb-true, ltb-false, eqb-true, eqb-false}
 use Rattle.words.specs.declared.Layout.the-variants as layout
+use Rattle.types.proofs.Orders.{compared}
 use Rattle.names.specs.Table.{Name, IsTable, split, name-text}
 use Rattle.names.specs.Inner.{name-end, name-place, Listable, Unplaced, Places}
 use Rattle.names.proofs.Tables.{split-nil, split-is}
@@ -21,6 +22,16 @@ pub table-listable : {t : List ℕ} {ns : List Name} → IsTable t ns → Listab
 table-listable {ns = ns} T =
     let R = good-rules layout.New ns (T .good) in
     record { few-names = omega (arith, ap length (split-is T)); few-bytes = omega (arith, ap length (T .bytes)) }
+
+-- no name has its place in a list of zeros
+pub unplaced : {t : List ℕ} → Listable t → Unplaced t (replicate 4096 0)
+unplaced L = record { listable = L; long = long; none = λ k. compared k 4096 (getD-replicate 4096 k 0 0) (λ h. past k (omega arith)) (λ h. past k (omega arith)) }
+  where
+    long : length (replicate {A = ℕ} 4096 0) ≡ 4096
+    long = length-replicate {A = ℕ} 4096 0
+
+    past : (k : ℕ) → 4096 ≤ k → _≡_ {A = ℕ} (getD (replicate 4096 0) k 0) 0
+    past k h = List·getD-eq-default (replicate 4096 0) 0 {n = k} (omega (arith, long))
 
 -- ---- the names from a place on
 module _ (t : List ℕ) where

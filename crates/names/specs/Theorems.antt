@@ -4,7 +4,7 @@ use mathlib.Core.Path.{_≡_}
 use mathlib.Core.List.{List, []}
 use mathlib.Core.Option.{some}
 use lib.ListN.{length, getD, take, drop}
-use Rattle.types.specs.Order.{order}
+use Rattle.types.specs.Order.{order, TotalOrder}
 use Rattle.names.specs.Table.{Name, name-order, IsTable, names-of}
 use Rattle.types.specs.Out.{ok}
 use Rattle.names.specs.Reply.{name-reply}
@@ -21,6 +21,10 @@ NamesOfIs = (t : List ℕ) (ns : List Name) → names-of t ≡ some ns → IsTab
 -- bytes are the table of at most one list of names
 abbrev pub UniqueNames : List ℕ → List Name → List Name → Type 0
 UniqueNames t ns ms = IsTable t ns → IsTable t ms → ns ≡ ms
+
+-- of two names one comes before the other, or they are the same bytes (01, "Words of the arena"; 02, A3)
+abbrev pub NameOrderTotal : Type 0
+NameOrderTotal = TotalOrder name-order
 
 -- the numbers of names stand as the names do, so that node order may compare numbers
 abbrev pub NumberOrder : Type 0

@@ -20,6 +20,8 @@ use case_reading::numbers::word;
 use free_vars::Answer;
 use free_vars::FreeVars;
 use free_vars::free_type_vars;
+use name_lookup::Lookup;
+use name_lookup::find_name;
 use names::Placed;
 use names::Table;
 use names::check_names;
@@ -91,6 +93,38 @@ fn name_at(s: &[u8], out: &mut Output, held: usize) -> Step {
         return Step::Cut;
     }
     let held = placed(out, held, name_stretch(part(s, 5, next), word(s, next)));
+    done(end, out, held)
+}
+
+// Whether a table has a text.
+fn found(out: &mut Output, held: usize, so: bool) -> usize {
+    if so {
+        return put_text(out, held, b"found");
+    }
+    put_text(out, held, b"absent")
+}
+
+// What `find_name` answered.
+fn looked_up(out: &mut Output, held: usize, r: Lookup) -> usize {
+    match r {
+        Lookup::At(position) => {
+            let held = found(out, held, position.found);
+            and(out, held, wide(position.place))
+        }
+        Lookup::Refused(number) => refused(out, held, number),
+    }
+}
+
+// Where a text stands among the names of a table.
+fn find(s: &[u8], out: &mut Output, held: usize) -> Step {
+    let next = add(5, wide(word(s, 1)));
+    let text = add(next, 4);
+    let end = add(text, wide(word(s, next)));
+    if s.len() < end {
+        return Step::Cut;
+    }
+    let r = find_name(part(s, 5, next), part(s, text, end));
+    let held = looked_up(out, held, r);
     done(end, out, held)
 }
 
@@ -278,6 +312,7 @@ pub fn one_arena(
         6 => table(s, out, held),
         7 => name_order(s, out, held),
         22 => name_at(s, out, held),
+        25 => find(s, out, held),
         9 | 11 | 13 | 14 | 15 | 16 | 20 => on_type(op, s, words, starts, out, held),
         _ => Step::Cut,
     }

@@ -4,6 +4,7 @@
 mod build;
 mod converting;
 mod deep;
+mod finding;
 mod growth;
 mod header;
 mod misuse;

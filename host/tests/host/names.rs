@@ -19,7 +19,7 @@ fn sorted_and_each_once() {
 }
 
 /// 4,096 names of 4 to 64 bytes that have 65,536 bytes together, each with its length byte.
-fn as_many_as_can_be() -> Vec<String> {
+pub fn as_many_as_can_be() -> Vec<String> {
     let text = |k: usize| {
         let more = match k % 16 {
             0 => 60,

@@ -2,6 +2,8 @@
 
 use coombtray::ffi;
 
+use crate::finding::raw_find;
+
 /// What a host lends, and what it reads afterwards.
 #[derive(Clone, PartialEq, Debug)]
 struct Lent {
@@ -526,4 +528,29 @@ fn a_name_is_a_stretch_of_the_table() {
     assert_eq!(place(b"", 0), (4, 77, 78));
     assert_eq!(place(b"\x01p\x02p", 0), (1, 77, 78));
     assert_eq!(place(b"\x01p\x02p", 9), (1, 77, 78), "before 4");
+}
+
+#[test]
+fn a_text_has_a_place_in_the_table() {
+    assert_eq!(raw_find(b"\x01p\x02pq", b"p"), (0, 1, 0));
+    assert_eq!(raw_find(b"\x01p\x02pq", b"pq"), (0, 1, 1));
+    assert_eq!(raw_find(b"\x01p\x02pq", b"pp"), (0, 0, 1));
+    assert_eq!(raw_find(b"\x01p\x02pq", b"pqr"), (0, 0, 2));
+    assert_eq!(raw_find(b"\x01p\x02pq", b"\x01p"), (0, 0, 0));
+    assert_eq!(raw_find(b"", b"p"), (0, 0, 0));
+    let tables = [
+        b"\x00".to_vec(),
+        b"\x02p".to_vec(),
+        b"\x01p\x01\x1f".to_vec(),
+        b"\x01q\x01p".to_vec(),
+        b"\x01p\x01p".to_vec(),
+        b"\x01p\x02p".to_vec(),
+        table_of(4_097, 4),
+        last_name_longer(),
+    ];
+    for table in tables {
+        for text in [&b""[..], b"p", b"0001", b"~"] {
+            assert_eq!(raw_find(&table, text), (1, 77, 78), "{text:?}");
+        }
+    }
 }

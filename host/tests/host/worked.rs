@@ -258,6 +258,21 @@ fn names_stand_bytewise() {
 }
 
 #[test]
+fn texts_among_names() {
+    let names = Names::new(["roll", "pitch", "roll angle"]).unwrap();
+    assert_eq!(names.find("pitch"), Ok(0));
+    assert_eq!(names.find("roll"), Ok(1));
+    assert_eq!(names.find(b"roll angle"), Ok(2));
+    assert_eq!(names.find("chainage"), Err(0));
+    assert_eq!(names.find("rol"), Err(1));
+    assert_eq!(names.find("rolling"), Err(3), "a space comes before i");
+    assert_eq!(names.find("roll "), Err(2));
+    assert_eq!(names.find("roll angle é"), Err(3));
+    assert_eq!(names.find(""), Err(0));
+    assert_eq!(Names::default().find("roll"), Err(0));
+}
+
+#[test]
 fn the_sheet_of_document_01() {
     let mut t = empty();
     let members = [var(&mut t, 0), int(&mut t)];

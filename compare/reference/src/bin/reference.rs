@@ -48,7 +48,9 @@ fn verdict(line: &str) -> String {
     let mut words = line.split(' ');
     match words.next() {
         Some("refused") => format!("refused {}", words.next().unwrap()),
-        Some(word @ ("ok" | "before" | "same" | "after" | "yes" | "no")) => word.into(),
+        Some(word @ ("ok" | "before" | "same" | "after" | "yes" | "no" | "found" | "absent")) => {
+            word.into()
+        }
         _ => "answered".into(),
     }
 }

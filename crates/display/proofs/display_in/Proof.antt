@@ -1,5 +1,6 @@
 -- The text fits under the limit, or every byte is cleared.
-use Rattle.display.proofs.Replies.{unplaced, limit-length, displays-nine, displays-text}
+use Rattle.names.proofs.Places.{unplaced}
+use Rattle.display.proofs.Replies.{limit-length, displays-nine, displays-text}
 use borrow.Author.Needs.{needs}
 use Rattle.display.proofs.display_in.Statement.{statement}
 use Rattle.display.proofs.display_in.Tie as tie

@@ -1,0 +1,5 @@
+pub mod Replies
+pub mod Positions
+pub mod Turns
+pub mod Halving
+pub mod Evaluated

@@ -1,0 +1,5 @@
+pub mod Lookup
+pub mod Turns
+pub mod Worked
+pub mod Inner
+pub mod Theorems
