@@ -14,10 +14,20 @@ use crate::{Names, OutputTy, Refusal, TyRef};
 ///
 /// Two arenas are equal if they have the same names and the same nodes under the same numbers, whatever is lent and
 /// however far each may grow.
-#[derive(Clone, PartialEq, Eq)]
+#[derive(Clone)]
 pub struct TypeArena {
     memory: Memory,
+    /// Of the names in memory. It goes with them.
+    known: Known,
 }
+
+impl PartialEq for TypeArena {
+    fn eq(&self, other: &TypeArena) -> bool {
+        self.memory == other.memory
+    }
+}
+
+impl Eq for TypeArena {}
 
 /// What `simplify` gives: the root of the simplified type, and how many passes were made.
 #[derive(Debug, Clone, Copy, PartialEq, Eq)]
@@ -36,7 +46,8 @@ impl TypeArena {
     /// An empty arena that may grow to so many words and nodes; 2 if they are over the full size.
     pub fn with_capacity(names: Names, words: usize, nodes: usize) -> Result<TypeArena, Refusal> {
         let memory = Memory::new(names, (words, nodes))?;
-        Ok(TypeArena { memory })
+        let known = Known::default();
+        Ok(TypeArena { memory, known })
     }
 
     /// An arena as `new` makes it that holds these nodes, which get the numbers 0, 1, and so on. They are judged once, so that
@@ -53,9 +64,8 @@ impl TypeArena {
 
     /// Puts these nodes after the last; a refusal leaves some of them there.
     fn lay(&mut self, nodes: impl IntoIterator<Item = OutputTy>) -> Result<(), Refusal> {
-        let mut known = Known::default();
         for node in nodes {
-            let words = words::encode(&self.memory.names, &mut known, &node)?;
+            let words = words::encode(&self.memory.names, &mut self.known, &node)?;
             self.memory.growing(|memory| memory.lay(&words))?;
         }
         self.memory.sound()
@@ -82,7 +92,7 @@ impl TypeArena {
     /// The number of a node, which is added if it isn't there. 3: no member, or over 64 members or fields; 4: a child
     /// that isn't there, or a name that isn't in the table; 7: no room.
     pub fn intern(&mut self, node: OutputTy) -> Result<TyRef, Refusal> {
-        let words = words::encode(&self.memory.names, &mut Known::default(), &node)?;
+        let words = words::encode(&self.memory.names, &mut self.known, &node)?;
         let number = self.memory.growing(|memory| memory.intern(&words));
         number.map(TyRef::from_raw)
     }
@@ -160,6 +170,7 @@ impl TypeArena {
     pub fn compact_into(&self, root: TyRef, target: &mut TypeArena) -> Result<TyRef, Refusal> {
         let copied = self.memory.compact(root.into_raw(), &mut target.memory)?;
         target.memory.names.clone_from(&self.memory.names);
+        target.known.clone_from(&self.known);
         Ok(TyRef::from_raw(copied))
     }
 

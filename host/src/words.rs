@@ -21,8 +21,8 @@ fn number(ty: TyRef) -> Result<u32, Refusal> {
     Ok(number)
 }
 
-/// Numbers of names that were found: a search judges the whole table, so nodes that come together have each name sought once.
-#[derive(Default)]
+/// Numbers of names that were found: a search judges the whole table, so an arena has each name sought once.
+#[derive(Clone, Default)]
 pub(crate) struct Known(HashMap<String, u32>);
 
 impl Known {
@@ -69,7 +69,7 @@ fn members(kind: u32, list: &[TyRef]) -> Result<Vec<u32>, Refusal> {
     Ok(node(kind, body?))
 }
 
-/// The words of a node; 3 or 4 if it has none. Of the same names all numbers are known that were found before.
+/// The words of a node; 3 or 4 if it has none. What is known is of the same names.
 pub(crate) fn encode(names: &Names, known: &mut Known, ty: &OutputTy) -> Result<Vec<u32>, Refusal> {
     Ok(match ty {
         OutputTy::Bottom => node(BOTTOM, vec![]),

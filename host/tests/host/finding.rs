@@ -2,8 +2,9 @@
 
 use std::collections::BTreeSet;
 
-use coombtray::{ffi, Names};
+use coombtray::{ffi, Names, OutputTy, Refusal, TyRef, TypeArena};
 
+use crate::build::*;
 use crate::names::as_many_as_can_be;
 use crate::random::Random;
 
@@ -160,4 +161,43 @@ fn a_full_table() {
     assert_eq!(sought.find(b"2047~~~~~~~~~"), Err(2_048));
     assert_eq!(sought.find(b"4096"), Err(4_096));
     assert_eq!(sought.find(&[255; 70_000]), Err(4_096));
+}
+
+/// A name of an arena that has been used, by a node of its own.
+fn use_name(arena: &mut TypeArena, name: &str) -> Result<OutputTy, Refusal> {
+    let inner = var(arena, 0);
+    let node = arena.intern(OutputTy::Named(name.into(), inner))?;
+    arena.get(node)
+}
+
+#[test]
+fn numbers_found_before_are_of_the_arenas_own_names() {
+    let mut source = named(&["a", "b", "d"]);
+    let root = var(&mut source, 0);
+    let alias = |name: &str| Ok(OutputTy::Named(name.into(), root));
+    assert_eq!(use_name(&mut source, "d"), alias("d"));
+    let mut target = named(&["b", "c"]);
+    assert_eq!(use_name(&mut target, "b"), alias("b"));
+    assert_eq!(use_name(&mut target, "c"), alias("c"));
+    // With the source's names `b` has another number, and there is no `c`.
+    source.compact_into(root, &mut target).unwrap();
+    assert_eq!(use_name(&mut target, "b"), alias("b"));
+    assert_eq!(use_name(&mut target, "c").unwrap_err().number(), 4);
+    assert_eq!(use_name(&mut target, "d"), alias("d"));
+    // More names move the others up.
+    target.add_names(["aa", "c"]).unwrap();
+    for name in ["aa", "b", "c", "d"] {
+        assert_eq!(use_name(&mut target, name), alias(name));
+    }
+}
+
+#[test]
+fn what_was_found_before_is_no_part_of_an_arena() {
+    let mut one = named(&["a"]);
+    var(&mut one, 0);
+    let other = one.clone();
+    // Refused by the child, after the name was found.
+    let node = OutputTy::Named("a".into(), TyRef::from_raw(9));
+    assert_eq!(one.intern(node).unwrap_err().number(), 4);
+    assert_eq!(one, other);
 }
