@@ -36,7 +36,6 @@ use Rattle.set_op_lists.specs.SetOps.{normalize-set-ops}
 use Rattle.simplify.specs.Simplify.{answered, simplify-reply}
 use Rattle.compact.specs.Compact.{over-limit, limited, cleared, empty, source, compacted, compact-reply}
 use Rattle.lang_ty.specs.Theorems.{ToldZero, ArenaZero}
-use Rattle.lang_ty.specs.Told.{told-as}
 use Rattle.lang_ty.specs.Numbered.{Numbered, value, refusal, Converted, done, eleven, answer-of, length-of}
 use Rattle.lang_ty.specs.Theorems.{AllNumbered}
 use Rattle.lang_ty.proofs.Numbers.{NumberedJob, refusal-high, refusal-low, by-test, required-numbered, then-numbered, rooted-numbered, intern-numbered}
@@ -120,10 +119,6 @@ converting-numbered b (refuse e) = eleven
 convert-numbered : (b : List ℕ) → Converted (length-of (convert-reply b))
 unfolding convert-reply
 convert-numbered b = converting-numbered b (read-sheet-in layout.Old b)
-
--- an answer told in another way
-pub told-as-numbered : {A B : Type 0} (f : A → B) {o : Out A} → Numbered o → Numbered (told-as f o)
-told-as-numbered f N = then-numbered N (λ x. value (f x))
 
 -- ---- calls that change an arena
 decode-numbered : (table nodes : ℕ) (ws : List ℕ) → Numbered (decode table nodes ws)

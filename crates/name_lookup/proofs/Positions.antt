@@ -19,30 +19,24 @@ use Rattle.types.proofs.Orders.{less-equal, equal-greater, compared}
 use Rattle.names.specs.Table.{Name, name-order, rising, names-of}
 use Rattle.names.proofs.Tables.{names-of-is}
 use Rattle.names.proofs.Rules.{good-rules, rising-rest}
-use Rattle.names.proofs.Numbers.{name-order-total, rising-first, rising-at}
+use Rattle.names.proofs.Numbers.{name-order-total, same-order, rising-first, rising-at}
 use Rattle.name_lookup.specs.Lookup.{has-name, names-before, position, find-reply}
 use Rattle.name_lookup.specs.Theorems.{IsName, Between, Answers, FindsExactly, PutRises}
 use Rattle.name_lookup.specs.declared.Position.{Position}
 use Rattle.name_lookup.proofs.Replies.{reply-of}
 
 -- ---- orders of three names
-greater-turned : (m n : Name) → name-order m n ≡ Less → name-order n m ≡ Greater
-unfolding reversed
-greater-turned m n e = name-order-total .turned m n ∙ ap reversed e
-
-less-turned : (m n : Name) → name-order m n ≡ Greater → name-order n m ≡ Less
-unfolding reversed
-less-turned m n e = name-order-total .turned m n ∙ ap reversed e
-
-same-order : {m n : Name} → m ≡ n → name-order m n ≡ Equal
-same-order {m} {n} e = ap (name-order m) (sym e) ∙ name-order-total .refl-equal m
+turned-as : (m n : Name) {o : Ordering} → name-order m n ≡ o → name-order n m ≡ reversed o
+turned-as m n e = name-order-total .turned m n ∙ ap reversed e
 
 -- what stands behind a name that comes after the text, or is it, comes after the text too
 pub behind-greater : (l m x : Name) → name-order l m ≡ Less → name-order l x ≡ Greater → name-order m x ≡ Greater
-behind-greater l m x e f = greater-turned x m (name-order-total .trans x l m (less-turned l x f) e)
+unfolding reversed
+behind-greater l m x e f = turned-as x m (name-order-total .trans x l m (turned-as l x f) e)
 
 pub behind-equal : (l m x : Name) → name-order l m ≡ Less → name-order l x ≡ Equal → name-order m x ≡ Greater
-behind-equal l m x e f = let p = name-order-total .equal l x f in greater-turned x m (ap (λ (n : Name). name-order n m) (sym p) ∙ e)
+unfolding reversed
+behind-equal l m x e f = let p = name-order-total .equal l x f in turned-as x m (ap (λ (n : Name). name-order n m) (sym p) ∙ e)
 
 module _ (x : Name) where
   -- ---- the definition's count and test
@@ -155,10 +149,10 @@ module _ (x : Name) where
   in-front n m ns e r = both (ap is-less e) r
 
   put-at : (ns : List Name) → rising ns ≡ true → (k : ℕ) → Between ns x k → rising (take k ns ++ x ∷ drop k ns) ≡ true
-  unfolding rising
+  unfolding rising reversed
   put-at [] r zero B = refl
   put-at [] r (suc k) B = absurd (omega (arith, B .most))
-  put-at (n ∷ ns) r zero B = in-front x n ns (less-turned n x (B .after 0 (omega arith) (omega arith))) r
+  put-at (n ∷ ns) r zero B = in-front x n ns (turned-as n x (B .after 0 (omega arith) (omega arith))) r
   put-at (n ∷ []) r (suc zero) B = in-front n x [] (B .before 0 (omega arith)) refl
   put-at (n ∷ []) r (suc (suc k)) B = absurd (omega (arith, B .most))
   put-at (n ∷ m ∷ ns) r (suc zero) B = in-front n x (m ∷ ns) (B .before 0 (omega arith)) (put-at (m ∷ ns) (rising-rest n (m ∷ ns) r) 0 (rest B))

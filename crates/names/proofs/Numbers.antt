@@ -23,9 +23,12 @@ pub name-order-total : NameOrderTotal
 unfolding name-order
 name-order-total = lexicographic-total order-total
 
+pub same-order : {m n : Name} → m ≡ n → name-order m n ≡ Equal
+same-order {m} e = ap (name-order m) (sym e) ∙ name-order-total .refl-equal m
+
 -- names that aren't told to be the same differ
 pub told-differs : (m n : Name) → (name-order m n ≡ Equal → ⊥) → m ≡ n → ⊥
-told-differs m n f e = f (ap (name-order m) (sym e) ∙ name-order-total .refl-equal m)
+told-differs m n f e = f (same-order e)
 
 pub less-true : (o : Ordering) → is-less o ≡ true → o ≡ Less
 less-true Less e = refl
