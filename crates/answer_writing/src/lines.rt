@@ -3,6 +3,7 @@ use crate::output::Output;
 use crate::output::put_decimal;
 use crate::output::put_lent;
 use crate::output::put_text;
+use node_store::added::Interned;
 use types::Counters;
 use types::arc_ty::wide;
 
@@ -43,6 +44,17 @@ pub fn and(out: &mut Output, held: usize, number: usize) -> usize {
 pub fn counters(out: &mut Output, held: usize, c: Counters) -> usize {
     let held = and(out, held, c.nodes);
     and(out, held, c.words)
+}
+
+// What a call that stores nodes answered.
+pub fn interned(out: &mut Output, held: usize, r: Interned) -> usize {
+    match r {
+        Interned::Node(number, c) => {
+            let held = ok(out, held, wide(number));
+            counters(out, held, c)
+        }
+        Interned::Refused(number) => refused(out, held, number),
+    }
 }
 
 // The memory as a call leaves it.

@@ -2,30 +2,25 @@
 use Prim.Native.Nat.{ℕ, _<_, _≤_}
 use mathlib.Core.Path.{_≡_}
 use mathlib.Core.Bool.{true}
-use mathlib.Core.List.{List, [], _∷_}
+use mathlib.Core.List.{List, []}
 use native.Mathlib.Omega.{arith}
 use lib.ListN.{length}
 use Rattle.types.specs.Out.{refuse}
 use Rattle.types.specs.Node.{tag, children}
-use Rattle.types.specs.Arena.{Arena, sound, Ext, here, more}
+use Rattle.types.specs.Arena.{Arena, sound, here}
 use Rattle.types.specs.declared.Counters.{Counters}
 use Rattle.types.proofs.Addresses.{start-room}
 use Rattle.recursion.specs.Jobs.{Job, rebuild}
 use Rattle.recursion.specs.Theorems.{Steady, There}
-use Rattle.recursion.proofs.Steady.{steady-later, rebuild-steady, step-well, step-child, rec-steady}
+use Rattle.recursion.proofs.Steady.{ext-empty, steady-later, rebuild-steady, step-well, step-child, rec-steady}
 use Rattle.recursion.proofs.Leading.{Lawful}
 use Rattle.copying.specs.Copy.{copy}
 use Rattle.copying.specs.Inner.{Source}
 
--- every arena grew from the empty one
-pub ext-empty : (a : Arena) → Ext [] a
-ext-empty [] = here
-ext-empty (x ∷ a) = more x (ext-empty a)
-
 pub copy-steady : (words starts table : ℕ) → starts ≤ 4096 → (u : Arena) → sound table u ≡ true → (n : ℕ) → n < length u → Steady table [] There (copy words starts u n)
 unfolding copy
 copy-steady words starts table few u g n l =
-    rec-steady table {Y = Job} {I = ℕ} (λ j i. j) (λ s x f. rebuild words starts (tag x) (children x) f) (λ a. refuse 6) (λ s. []) (λ x s. here)
+    rec-steady table table {Y = Job} {I = ℕ} (λ j i. j) (λ s x f. rebuild words starts (tag x) (children x) f) (λ a. refuse 6) (λ s. []) (λ x s. here)
     (λ x s f h k i. rebuild-steady words starts table few [] (length s) (tag x) (children x) f (step-well table x s h) (λ c m. k c (step-child table x s h c m) i))
     u g n l 0
 

@@ -8,14 +8,14 @@ use lib.ListN.{length, take, replicate, length-replicate}
 use lib.Seq.{length-take-le}
 use mir.Syntax.{w64}
 use mir.Val.{Fits}
-use Rattle.types.specs.Node.{Node, node, tag, children, encode, below, formed, well, IsNode}
+use Rattle.types.specs.Node.{Node, node, tag, children, encode, below, well, IsNode}
 use Rattle.types.specs.Arena.{Arena, at, find}
 use Rattle.types.specs.Fault.{children-in}
 use Rattle.types.specs.Memory.{Holds}
 use Rattle.types.specs.declared.Counters.{Counters}
 use Rattle.types.proofs.Lists.{below-more}
-use Rattle.types.proofs.Nodes.{nil, formed-parts, encode-injective}
-use Rattle.types.proofs.Sound.{at-well, at-formed}
+use Rattle.types.proofs.Nodes.{nil, encode-injective}
+use Rattle.types.proofs.Sound.{at-well}
 use Rattle.types.proofs.Addresses.{start-room}
 use Rattle.types.proofs.Decodes.{well-parts}
 use Rattle.types.proofs.Memories.{unique}
@@ -24,8 +24,9 @@ use Rattle.node_store.specs.Inner.Added.{Fresh, Absent, Interns}
 use Rattle.node_store.specs.declared.added.Interned.{Interned}
 use Rattle.recursion.proofs.Interning.{node-is, well-again}
 use Rattle.rebuilding.specs.Inner.Rebuilt.{AsMany, Exchanging, Exchanged}
-use Rattle.rebuilding.proofs.Copying.{children-read, few-read}
-use Rattle.rebuilding.proofs.Exchanging.{length-given, exchanged-encode}
+use Rattle.rebuilding.proofs.Copying.{children-read}
+use Rattle.rebuilding.proofs.Exchanging.{length-given}
+use Rattle.rebuilding.proofs.Given.{given-many, given-words}
 use Rattle.copying.specs.Inner.{CopyReady, CopyNew, Copies}
 
 module _ {w s : List ℕ} {c : Counters} {n : ℕ} {items : List ℕ} {count : ℕ} {tw ts : List ℕ} {d : Counters} (R : CopyReady w s c n items count tw ts d) where
@@ -51,11 +52,8 @@ module _ {w s : List ℕ} {c : Counters} {n : ℕ} {items : List ℕ} {count : �
       read = children-read copy-range N H
 
     pub copy-many : AsMany ws items count
-    copy-many = record {
-      long = R .long;
-      few = omega (arith, R .count-is, few-read copy-range N, ap length (read (R .from)));
-      count-is = omega (arith, R .count-is, ap length (read (R .from)));
-    }
+    unfolding copy-range
+    copy-many = given-many copy-range N items count (R .long) (R .count-is)
 
     pub copy-fits : Fits w64 (count + 1)
     copy-fits = omega (arith, copy-many .few)
@@ -116,10 +114,7 @@ module _ {w s : List ℕ} {c : Counters} {n : ℕ} {items : List ℕ} {count : �
         copy-length = sym (length-take-le (count + 1) new copy-prefix)
 
         new-words : {table : ℕ} {u : Arena} → Holds table w s c u → take (count + 1) new ≡ encode (node (tag (at u n)) (take count items))
-        new-words {table} {u} H = go (at u n) (N .is table u H) (at-formed table u (H .good) n (inside-u H)) (copy-many .count-is ∙ ap length (read H))
-          where
-            go : (x : Node) → ws ≡ encode x → formed x ≡ true → count ≡ length (children x) → take (count + 1) new ≡ encode (node (tag x) (take count items))
-            go (node t cs) v g k = exchanged-encode t cs (formed-parts t cs g) k some (copy-many .few) (length-given copy-many) (subst (λ (l : List ℕ). Exchanged l items count new) v X)
+        new-words H = given-words copy-range N copy-many H some X
 
         pub copy-fresh : Fresh tw ts d (take (count + 1) new)
         copy-fresh = record { table = R .table; view = R .target; holds = R .to; node = node (tag (at (R .source) n)) (take count items); is = may-add (R .from) (R .to) (new-words (R .from)) }

@@ -40,7 +40,7 @@ module _ {w s : List ℕ} {c : Counters} {tw ts : List ℕ} {d : Counters} {n : 
         let X = L .is (P .table) (P .source) H in
         record { ready = P; long = X .long; few = X .few; low = ap (below n) (X .is) ∙ children-below (P .table) (P .source) (H .good) n (P .inside) }
 
-    copy-rebuilt : Rebuilt copy (Source w s c) tw ts d n (r .items) (r .count)
+    copy-rebuilt : Rebuilt copy (Source w s c) (λ t. t) tw ts d n (r .items) (r .count)
     copy-rebuilt = record {
       kids = λ table u a H Q l. L .is table u (Q .holds) .is;
       step = λ table u a H Q l. copy-at (length tw) (length ts) table u (Q .holds .good) n l;

@@ -17,16 +17,16 @@ use Rattle.recursion.proofs.Answers.{ok-same, bind-parts}
 use Rattle.copying.specs.Copy.{copy}
 use Rattle.copying.proofs.Steps.{copy-at}
 
+pub done-roomy : {words starts : ℕ} {x : Node} {a b : Arena} {m : ℕ} → has-room words starts a ≡ true → Done words starts x a m b → has-room words starts b ≡ true
+done-roomy r (stored p) = r
+done-roomy r (added p q) = q
+
 module _ (words starts table : ℕ) (u : Arena) (g : sound table u ≡ true) where
   abbrev Roomy : Arena → Type 0
   Roomy a = has-room words starts a ≡ true
 
   abbrev Keeps : ℕ → Type 0
   Keeps c = (a : Arena) (m : ℕ) (b : Arena) → Roomy a → copy words starts u c a ≡ ok (m, b) → Roomy b
-
-  done-roomy : {x : Node} {a b : Arena} {m : ℕ} → Roomy a → Done words starts x a m b → Roomy b
-  done-roomy r (stored p) = r
-  done-roomy r (added p q) = q
 
   each-keeps : (cs : List ℕ) → ((c : ℕ) → Mem c cs → Keeps c) → (a : Arena) (ms : List ℕ) (b : Arena) → Roomy a → each (copy words starts u) cs a ≡ ok (ms, b) → Roomy b
   unfolding each

@@ -13,7 +13,8 @@ use Rattle.types.proofs.Nodes.{cons}
 use Rattle.types.proofs.Addresses.{start-room}
 use Rattle.names.specs.Table.{Name}
 use Rattle.equal.specs.Equal.{Tree, over, label-of, tree}
-use Rattle.equal.specs.Inner.Pairs.{Beside, Side}
+use Rattle.soundness.specs.Inner.Sides.{Side}
+use Rattle.equal.specs.Inner.Pairs.{Beside}
 use Rattle.equal.proofs.OnePartner.{over-parts, tree-at}
 use Rattle.equal.proofs.SameNodes.{Alike}
 

@@ -20,7 +20,7 @@ use Rattle.types.proofs.Lists.{below-cons}
 use Rattle.types.proofs.Nodes.{cons}
 use Rattle.names.specs.Table.{Name}
 use Rattle.equal.specs.Equal.{spelling, spell}
-use Rattle.equal.specs.Inner.Names.{Matches}
+use Rattle.name_matching.specs.Inner.{Matches}
 use Rattle.equal.specs.Inner.Data.{same-field, same-fields}
 
 -- ---- two flags

@@ -1,5 +1,4 @@
 pub mod OnePartner
-pub mod Merging
 pub mod Labels
 pub mod Fields
 pub mod SameNodes

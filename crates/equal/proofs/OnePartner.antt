@@ -14,10 +14,9 @@ use Rattle.types.proofs.Tests.{and-true}
 use Rattle.types.proofs.Lists.{below-cons, below-more}
 use Rattle.types.proofs.Nodes.{cons, encode-injective}
 use Rattle.types.proofs.Decodes.{well-parts}
-use Rattle.types.proofs.Orders.{order-total}
 use Rattle.types.proofs.Sound.{at-well, at-formed, children-below, fold-at, at-find}
-use Rattle.names.specs.Table.{Name, name-order, names-of}
-use Rattle.names.proofs.Numbers.{name-order-total, number-order}
+use Rattle.names.specs.Table.{Name, names-of}
+use Rattle.names.proofs.Numbers.{text-number}
 use Rattle.equal.specs.Equal.{Label, Tree, over, spell, label-of, tree}
 use Rattle.equal.specs.Inner.Data.{Named}
 use Rattle.equal.specs.Theorems.{OnePartner}
@@ -40,10 +39,6 @@ tree-at ns table a h n l = fold-at (λ (t : Tag) (ts : List Tree). over (label-o
 
 -- ---- fields that spell the same under one table
 module _ (t : List ℕ) (ns : List Name) (e : names-of t ≡ some ns) where
-  pub text-number : (i j : ℕ) → i < length ns → j < length ns → getD ns i [] ≡ getD ns j [] → i ≡ j
-  text-number i j h k q =
-      order-total .equal i j (sym (number-order t ns e i j h k) ∙ ap (name-order (getD ns i [])) (sym q) ∙ name-order-total .refl-equal (getD ns i []))
-
   field-number : (fs gs : List Field) → below (length ns) (field-names fs) ≡ true → below (length ns) (field-names gs) ≡ true → map (spell ns) fs ≡ map (spell ns) gs → fs ≡ gs
   field-number [] [] p q r = refl
   field-number [] (g ∷ gs) p q r = let z : _≡_ {A = ℕ} 0 1 = cc in absurd (omega arith)
@@ -54,7 +49,7 @@ module _ (t : List ℕ) (ns : List Name) (e : names-of t ≡ some ns) where
       let s : map (spell ns) fs ≡ map (spell ns) gs = cc in
       let x = below-cons (length ns) i (field-names fs) p in
       let y = below-cons (length ns) j (field-names gs) q in
-      cons (ap₂ field f (text-number i j (x .0) (y .0) g)) (field-number fs gs (x .1) (y .1) s)
+      cons (ap₂ field f (text-number t ns e i j (x .0) (y .0) g)) (field-number fs gs (x .1) (y .1) s)
 
 -- ---- nodes with one label and the same children
 linked-names : (table n : ℕ) (x : Node) → linked table n x ≡ true → below table (names (tag x)) ≡ true

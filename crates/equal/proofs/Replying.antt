@@ -1,24 +1,24 @@
 -- What the call answers on each of its ways.
 use Prim.Native.Nat.{ℕ, _<_, _≤_}
-use mathlib.Core.Path.{_≡_, sym, ap, _∙_, subst}
+use mathlib.Core.Path.{_≡_, sym, ap, _∙_}
 use mathlib.Core.Bool.{Bool}
 use mathlib.Core.List.{List}
 use native.Mathlib.Omega.{arith}
-use lib.ListN.{length}
 use Rattle.types.specs.Out.{Out, ok, refuse}
 use Rattle.types.specs.Arena.{Arena}
-use Rattle.types.specs.Memory.{Holds}
-use Rattle.types.specs.Reply.{judged, rooted}
+use Rattle.types.specs.Reply.{rooted}
 use Rattle.types.specs.declared.Counters.{Counters}
-use Rattle.types.proofs.Replies.{tabled-yes, judged-yes, rooted-no, rooted-yes}
-use Rattle.names.specs.Table.{Name, names-of}
+use Rattle.types.proofs.Replies.{rooted-no, rooted-yes}
+use Rattle.names.specs.Table.{Name}
 use Rattle.soundness.specs.Inner.Sound.{lent-reply, judged-out}
 use Rattle.soundness.specs.declared.Judged.{Judged}
 use Rattle.soundness.specs.declared.Judged.the-variants as verdict
-use Rattle.soundness.proofs.Verdicts.{lent-names, lent-refused}
+use Rattle.soundness.specs.Lent.{lent-to}
+use Rattle.soundness.specs.Inner.Sides.{Side}
+use Rattle.soundness.proofs.Sides.{side-known, refused-to, side-to}
 use Rattle.equal.specs.Equal.{equal}
-use Rattle.equal.specs.Reply.{lent-to, equal-roots, equal-reply}
-use Rattle.equal.specs.Inner.Pairs.{Side, Sides, Tells, Answers, RightAnswers}
+use Rattle.equal.specs.Reply.{equal-roots, equal-reply}
+use Rattle.equal.specs.Inner.Pairs.{Sides, Tells, Answers, RightAnswers}
 
 -- ---- 6 for either root
 abbrev answer : ℕ → ℕ → List Name → List Name → Arena → Arena → Out Bool
@@ -44,22 +44,6 @@ module _ {t w s : List ℕ} {c : Counters} {m : ℕ} {u v r : List ℕ} {d : Cou
     roots-in h T = record {
       is = λ L R. ap ok (T .is L R) ∙ sym (rooted-yes n (answer m n (L .names) (R .names) (L .view)) (R .view) (omega (arith, h, R .holds .nodes))) ∙ left-in m n l L R;
     }
-
--- ---- 1 and 2 of one side
-module _ (t w s : List ℕ) (c : Counters) {j : Judged} (e : judged-out j ≡ lent-reply t w s c) where
-  pub side-known : {k : ℕ} → j ≡ verdict.Names k → Side t w s c
-  side-known {k} p =
-      let H = lent-names t w s c e p in
-      record { names = H .names; is = H .is; view = H .view; holds = subst (λ (i : ℕ). Holds i w s c (H .view)) (H .count) (H .holds) }
-
-  refused-to : {A : Type 0} (f : List Name → Arena → Out A) {k : ℕ} → j ≡ verdict.Refused k → refuse k ≡ lent-to t w s c f
-  unfolding lent-to
-  refused-to f p = sym (lent-refused t w s c e f p)
-
-side-to : {A : Type 0} {t w s : List ℕ} {c : Counters} (S : Side t w s c) (f : List Name → Arena → Out A) → f (S .names) (S .view) ≡ lent-to t w s c f
-unfolding lent-to
-side-to {t = t} {w = w} {s = s} {c = c} S f =
-    sym (tabled-yes (λ (ns : List Name). judged (length ns) w s c (f ns)) (names-of t) (S .names) (S .is) ∙ judged-yes (length (S .names)) w s c (f (S .names)) (S .view) (S .holds))
 
 -- ---- both sides
 module _ (u v r : List ℕ) (d : Counters) {j : Judged} (e : judged-out j ≡ lent-reply u v r d) where

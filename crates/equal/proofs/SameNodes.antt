@@ -18,9 +18,10 @@ use Rattle.node_order.specs.WordsOrder.{field-count}
 use Rattle.node_order.specs.Inner.{FieldCount}
 use Rattle.names.specs.Table.{Name}
 use Rattle.equal.specs.Equal.{label, spell, label-of, label-dec}
-use Rattle.equal.specs.Inner.Names.{Matches}
+use Rattle.name_matching.specs.Inner.{Matches}
 use Rattle.equal.specs.Inner.Data.{same-fields, same-data, Named, SameData}
-use Rattle.equal.proofs.Labels.{plain, fielded, body-length, one-word}
+use Rattle.node_order.proofs.Fielded.{fielded, body-length}
+use Rattle.equal.proofs.Labels.{plain, one-word}
 use Rattle.equal.proofs.Fields.{fields-spelt, spelt-fields}
 
 -- ---- what the test says

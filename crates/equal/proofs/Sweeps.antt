@@ -16,9 +16,10 @@ use Rattle.types.specs.declared.Counters.{Counters}
 use Rattle.types.proofs.Tests.{same-if, same-not}
 use Rattle.types.proofs.Sound.{child-lower}
 use Rattle.equal.specs.Equal.{tree, tree-dec, equal}
-use Rattle.equal.specs.Inner.Names.{Maps, Blank}
-use Rattle.equal.specs.Inner.Pairs.{Pair, Side, Mapped, Matched, Agreeing, Below, Visit, Visiting, Visited, Fresh, Decides, Roots, Tells}
-use Rattle.equal.proofs.Merging.{blank}
+use Rattle.name_matching.specs.Inner.{Maps, Blank}
+use Rattle.soundness.specs.Inner.Sides.{Side}
+use Rattle.equal.specs.Inner.Pairs.{Pair, Mapped, Matched, Agreeing, Below, Visit, Visiting, Visited, Fresh, Decides, Roots, Tells}
+use Rattle.name_matching.proofs.Merging.{blank}
 use Rattle.equal.proofs.Descending.{child-trees, alike-trees, side-small}
 
 pub record Sweep (ks w s : List ℕ) (c : Counters) (m : ℕ) (v r : List ℕ) (d : Counters) (n : ℕ) (ps : List ℕ) (k : ℕ) : Type 0 where

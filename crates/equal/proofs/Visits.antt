@@ -15,16 +15,14 @@ use Rattle.types.proofs.Tests.{true-false}
 use Rattle.types.proofs.Nodes.{length-encode}
 use Rattle.types.proofs.Faults.{children-encode}
 use Rattle.types.proofs.Sound.{child-lower}
-use Rattle.node_store.specs.Inner.Stored.{Lent, InRange, NodeAt}
+use Rattle.node_store.specs.Inner.Stored.{InRange, NodeAt}
 use Rattle.equal.specs.Equal.{tree}
 use Rattle.equal.specs.Inner.Data.{Named, SameData}
-use Rattle.equal.specs.Inner.Pairs.{Pair, Beside, Clash, Level, GivesAll, Side, Mapped, Matched, Agreeing, Below, Visit, Visiting, Visited}
+use Rattle.soundness.proofs.Sides.{side-lent}
+use Rattle.equal.specs.Inner.Pairs.{Pair, Beside, Clash, Level, GivesAll, Mapped, Matched, Agreeing, Below, Visit, Visiting, Visited}
 use Rattle.equal.proofs.OnePartner.{named-at, one-partner}
 use Rattle.equal.proofs.SameNodes.{Alike, data-alike, alike-data}
 use Rattle.equal.proofs.Descending.{trees-alike, child-trees, side-small}
-
-pub side-lent : {t w s : List ℕ} {c : Counters} → Side t w s c → Lent w s c
-side-lent S = record { table = length (S .names); view = S .view; holds = S .holds }
 
 module _ {ks w s : List ℕ} {c : Counters} {v r : List ℕ} {d : Counters} {n : ℕ} {ps : List ℕ} (V′ : Visiting ks w s c v r d n ps) where
   pub visit-small : n < 4096

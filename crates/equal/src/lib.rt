@@ -1,6 +1,5 @@
-// Structural equality of two types in two arenas, names by text: `matching` finds which names of the two tables are one,
-// `node_data` compares what two nodes carry besides their children, `pairs` pairs the nodes that must be equal.
-mod matching;
+// Structural equality of two types in two arenas, names by text: `node_data` compares what two nodes carry besides their children,
+// `pairs` pairs the nodes that must be equal.
 mod node_data;
 mod pairs;
 
@@ -12,7 +11,8 @@ use types::Counters;
 use types::arc_ty::wide;
 ghost use mathlib.Core.Path.{_≡_};
 ghost use Rattle.questions.specs.Vars.{asked-out};
-ghost use Rattle.equal.specs.Inner.Pairs.{Side, Sides, Answers, RightAnswers};
+ghost use Rattle.soundness.specs.Inner.Sides.{Side};
+ghost use Rattle.equal.specs.Inner.Pairs.{Sides, Answers, RightAnswers};
 ghost use Rattle.equal.specs.Reply.{equal-reply};
 
 // Whether the roots are equal, in arenas that are known to be sound.

@@ -1,5 +1,5 @@
 // What two nodes of two arenas carry besides their children, compared word by word. Names are compared by a map that
-// `matching` makes: at the number of a name of the left stands the number, and one, of the right's name with the same text.
+// `name_matching` makes: at the number of a name of the left stands the number, and one, of the right's name with the same text.
 use node_order::field_count;
 use types::arc_ty::Head;
 use types::arc_ty::wide;

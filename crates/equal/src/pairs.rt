@@ -1,8 +1,8 @@
 // Pairs of nodes that must be equal if the roots are. In a sound arena different nodes have different trees, so a node of the
 // left has at most one partner in the right. Children have lower numbers, so one loop from the left root down meets each node
 // after all that lead to it, and every word of the left arena at most once.
-use crate::matching::match_names;
 use crate::node_data::same_data;
+use name_matching::match_names;
 use node_store::children::child_words;
 use node_store::stored::node_at;
 use types::Counters;

@@ -1,6 +1,6 @@
 -- The type that `compact` copied is structurally equal to the one it came from: a host that asks after a finished call is answered yes.
 use Prim.Native.Nat.{ℕ, suc, _<_, _≤_}
-use mathlib.Core.Path.{_≡_, refl, sym, ap, _∙_, subst}
+use mathlib.Core.Path.{_≡_, refl, sym, ap, _∙_, subst, subst₂, subst₃}
 use mathlib.Core.Bool.{Bool, true, false}
 use mathlib.Core.List.{List, []}
 use mathlib.Core.Option.{Option, none, some}
@@ -18,7 +18,7 @@ use Rattle.types.proofs.Tests.{and-true, both, same-if}
 use Rattle.types.proofs.Lists.{length-padded}
 use Rattle.types.proofs.Addresses.{length-heads}
 use Rattle.types.proofs.Memories.{holds-arena-of}
-use Rattle.types.proofs.Replies.{tabled-yes, judged-yes, rooted-no, rooted-yes}
+use Rattle.types.proofs.Replies.{rooted-no, rooted-yes}
 use Rattle.names.specs.Table.{Name, names-of}
 use Rattle.node_store.specs.Intern.{has-room}
 use Rattle.recursion.proofs.Answers.{ok-refuse, ok-same}
@@ -27,8 +27,32 @@ use Rattle.copying.proofs.Running.{compact-sound, compact-inside, compact-fold}
 use Rattle.copying.proofs.Rooms.{copy-room}
 use Rattle.compact.specs.Compact.{limited, source, cleared, empty, compacted, compact-reply}
 use Rattle.equal.specs.Equal.{Tree, over, label-of, tree-dec, tree, equal}
-use Rattle.equal.specs.Reply.{lent-to, equal-roots, equal-reply}
+use Rattle.soundness.specs.Lent.{lent-to}
+use Rattle.soundness.specs.Inner.Sides.{Side}
+use Rattle.soundness.proofs.Sides.{side-to}
+use Rattle.equal.specs.Reply.{equal-roots, equal-reply}
 use Rattle.lang_ty.specs.Theorems.{CompactEqual}
+
+-- ---- whatever a call that is lent an arena answers
+module _ {A : Type 0} (P : Out A → Type 0) where
+  pub lent-cases : (t w s : List ℕ) (c : Counters) (f : List Name → Arena → Out A) → P (refuse 1) → P (refuse 2) → ((S : Side t w s c) → P (f (S .names) (S .view))) → P (lent-to t w s c f)
+  unfolding lent-to tabled judged required
+  lent-cases t w s c f one two h = go (names-of t) refl
+    where
+      judge : (ns : List Name) → names-of t ≡ some ns → (o : Option Arena) → arena-of (length ns) w s c ≡ o → P (required 2 o (f ns))
+      judge ns e none r = two
+      judge ns e (some u) r = h (record { names = ns; is = e; view = u; holds = holds-arena-of r })
+
+      go : (o : Option (List Name)) → names-of t ≡ o → P (required 1 o (λ (ns : List Name). required 2 (arena-of (length ns) w s c) (f ns)))
+      go none e = one
+      go (some ns) e = judge ns e (arena-of (length ns) w s c) refl
+
+  pub rooted-cases : (root : ℕ) (f : Arena → Out A) (a : Arena) → P (refuse 6) → (root < length a → P (f a)) → P (rooted root f a)
+  rooted-cases root f a six h = go (ltb root (length a)) refl
+    where
+      go : (b : Bool) → ltb root (length a) ≡ b → P (rooted root f a)
+      go true e = let l = ltb-true root (length a) e in subst P (sym (rooted-yes root f a l)) (h l)
+      go false e = subst P (sym (rooted-no root f a (ltb-false root (length a) e))) six
 
 -- ---- what a finished call was lent
 record Source (t w s : List ℕ) (c : Counters) (root : ℕ) (tw ts : List ℕ) (u : Arena) : Type 0 where
@@ -39,20 +63,6 @@ record Source (t w s : List ℕ) (c : Counters) (root : ℕ) (tw ts : List ℕ) 
   pub few-words : length tw ≤ 16384
   pub few-starts : length ts ≤ 4096
 
--- each step of a finished call was passed
-passed : {A B : Type 0} (n : ℕ) (o : Option A) (f : A → Out B) {y : B} → required n o f ≡ ok y → (x : A) × (o ≡ some x) × (f x ≡ ok y)
-unfolding required
-passed n none f e = absurd (ok-refuse e)
-passed n (some x) f e = (x, refl, e)
-
-inside-root : (root : ℕ) (v : Arena) {u : Arena} → rooted root ok v ≡ ok u → (root < length v) × (v ≡ u)
-unfolding rooted
-inside-root root v {u} e = go (ltb root (length v)) refl
-  where
-    go : (b : Bool) → ltb root (length v) ≡ b → (root < length v) × (v ≡ u)
-    go true p = let l = ltb-true root (length v) p in (l, ok-same (sym (rooted-yes root ok v l) ∙ e))
-    go false p = absurd (ok-refuse (sym (rooted-no root ok v (ltb-false root (length v) p)) ∙ e))
-
 within-limits : {A : Type 0} (tw ts : List ℕ) (o : Out A) {y : A} → limited tw ts o ≡ ok y → (length tw ≤ 16384) × (length ts ≤ 4096) × (o ≡ ok y)
 unfolding limited
 within-limits {A} tw ts o {y} e = go (ltb 16384 (length tw)) (ltb 4096 (length ts)) refl refl
@@ -62,53 +72,50 @@ within-limits {A} tw ts o {y} e = go (ltb 16384 (length tw)) (ltb 4096 (length t
     go false true p q = let z : limited tw ts o ≡ refuse 2 = rw (limited, p, q) in absurd (ok-refuse (sym z ∙ e))
     go false false p q = let z : limited tw ts o ≡ o = rw (limited, p, q) in (ltb-false 16384 (length tw) p, ltb-false 4096 (length ts) q, sym z ∙ e)
 
-module _ (t w s : List ℕ) (c : Counters) (root : ℕ) (tw ts : List ℕ) where
-  lent-so : (u : Arena) → source t w s c root tw ts ≡ ok u → Source t w s c root tw ts u
-  unfolding source tabled judged
-  lent-so u e =
-      let p = passed 1 (names-of t) _ e in
-      let q = passed 2 (arena-of (length (p .0)) w s c) _ (p .2) in
-      let l = within-limits tw ts (rooted root ok (q .0)) (q .2) in
-      let r = inside-root root (q .0) (l .2) in
+module _ (t w s : List ℕ) (c : Counters) (root : ℕ) (tw ts : List ℕ) (u : Arena) where
+  abbrev Lent : Out Arena → Type 0
+  Lent o = o ≡ ok u → Source t w s c root tw ts u
+
+  lent-so : Lent (source t w s c root tw ts)
+  unfolding source lent-to
+  lent-so =
+      lent-cases Lent t w s c (λ (ns : List Name) (v : Arena). limited tw ts (rooted root ok v)) (λ e. absurd (ok-refuse e)) (λ e. absurd (ok-refuse e)) (λ S e.
+      let l = within-limits tw ts (rooted root ok (S .view)) e in
+      rooted-cases Lent root ok (S .view) (λ f. absurd (ok-refuse f)) (λ r f.
+      let v = ok-same f in
       record {
-        names = p .0;
-        is = p .1;
-        holds = subst (Holds (length (p .0)) w s c) (r .1) (holds-arena-of (q .1));
-        inside = subst (λ (v : Arena). root < length v) (r .1) (r .0);
+        names = S .names;
+        is = S .is;
+        holds = subst (Holds (length (S .names)) w s c) v (S .holds);
+        inside = subst (λ (a : Arena). root < length a) v r;
         few-words = l .0;
         few-starts = l .1;
-      }
+      }) (l .2))
 
 -- ---- what a finished call has left
-record Copied (tw ts : List ℕ) (u : Arena) (root m : ℕ) (d : Counters) (tw′ ts′ : List ℕ) : Type 0 where
-  pub target : Arena
-  pub run : copy (length tw) (length ts) u root [] ≡ ok (m, target)
-  pub counters : d ≡ counters-of target
-  pub words : tw′ ≡ words-of (length tw) target
-  pub starts : ts′ ≡ starts-of (length ts) target
-
 reply-parts : {m n : ℕ} {c d : Counters} {w v s r : List ℕ} → _≡_ {A = Reply ℕ} (reply (ok m) c w s) (reply (ok n) d v r) → (m ≡ n) × (c ≡ d) × (w ≡ v) × (s ≡ r)
 reply-parts e = (cc, cc, cc, cc)
 
-reply-not : {m n : ℕ} {c d : Counters} {w v s r : List ℕ} → _≡_ {A = Reply ℕ} (reply (refuse m) c w s) (reply (ok n) d v r) → ⊥
+pub reply-not : {m n : ℕ} {c d : Counters} {w v s r : List ℕ} → _≡_ {A = Reply ℕ} (reply (refuse m) c w s) (reply (ok n) d v r) → ⊥
 reply-not e = let z : _≡_ {A = ℕ} 0 1 = cc in omega arith
 
-module _ (tw ts : List ℕ) (u : Arena) (root : ℕ) {m : ℕ} {d : Counters} {tw′ ts′ : List ℕ} where
-  copied-so : reply-of (cleared tw) (cleared ts) empty (copy (length tw) (length ts) u root []) ≡ reply (ok m) d tw′ ts′ → Copied tw ts u root m d tw′ ts′
-  unfolding reply-of
-  copied-so e = go (copy (length tw) (length ts) u root []) refl e
-    where
-      go : (o : Out (ℕ × Arena)) → copy (length tw) (length ts) u root [] ≡ o → reply-of (cleared tw) (cleared ts) empty o ≡ reply (ok m) d tw′ ts′ → Copied tw ts u root m d tw′ ts′
-      go (refuse n) p f = absurd (reply-not f)
-      go (ok r) p f =
-          let q = reply-parts f in
-          record {
-            target = r .1;
-            run = p ∙ ap (λ (k : ℕ). ok (k, r .1)) (q .0);
-            counters = sym (q .1);
-            words = sym (q .2) ∙ ap (λ (k : ℕ). words-of k (r .1)) (length-replicate (length tw) 0);
-            starts = sym (q .3) ∙ ap (λ (k : ℕ). starts-of k (r .1)) (length-replicate (length ts) 0);
-          }
+-- what was done gave a number and an arena, which memory of so many words and starts has
+pub record Left (words starts : ℕ) (o : Out (ℕ × Arena)) (m : ℕ) (d : Counters) (w s : List ℕ) : Type 0 where
+  pub target : Arena
+  pub run : o ≡ ok (m, target)
+  pub counters : d ≡ counters-of target
+  pub words-are : w ≡ words-of words target
+  pub starts-are : s ≡ starts-of starts target
+
+pub left-so : (w s : List ℕ) (c : Counters) (o : Out (ℕ × Arena)) {m : ℕ} {d : Counters} {w′ s′ : List ℕ} → reply-of w s c o ≡ reply (ok m) d w′ s′ → Left (length w) (length s) o m d w′ s′
+unfolding reply-of
+left-so w s c (refuse n) e = absurd (reply-not e)
+left-so w s c (ok r) e =
+    let q = reply-parts e in
+    record { target = r .1; run = ap (λ (k : ℕ). ok (k, r .1)) (q .0); counters = sym (q .1); words-are = sym (q .2); starts-are = sym (q .3) }
+
+copied-so : (tw ts : List ℕ) (o : Out (ℕ × Arena)) {m : ℕ} {d : Counters} {tw′ ts′ : List ℕ} → reply-of (cleared tw) (cleared ts) empty o ≡ reply (ok m) d tw′ ts′ → Left (length tw) (length ts) o m d tw′ ts′
+copied-so tw ts o {m} {d} {tw′} {ts′} e = subst₂ (λ (i j : ℕ). Left i j o m d tw′ ts′) (length-replicate (length tw) 0) (length-replicate (length ts) 0) (left-so (cleared tw) (cleared ts) empty o e)
 
 -- an arena with room, in memory of that size, is held there
 held : (table : ℕ) (words starts : ℕ) (b : Arena) → words ≤ 16384 → starts ≤ 4096 → has-room words starts b ≡ true → sound table b ≡ true → Holds table (words-of words b) (starts-of starts b) (counters-of b) b
@@ -127,32 +134,41 @@ held table words starts b few-words few-starts r g =
       good = g;
     }
 
+pub left-held : {table words starts : ℕ} {o : Out (ℕ × Arena)} {m : ℕ} {d : Counters} {w s : List ℕ} (L : Left words starts o m d w s) → words ≤ 16384 → starts ≤ 4096 → has-room words starts (L .target) ≡ true → sound table (L .target) ≡ true → Holds table w s d (L .target)
+left-held {table} {words} {starts} L few-words few-starts r g =
+    subst₃ (λ (x y : List ℕ) (i : Counters). Holds table x y i (L .target)) (sym (L .words-are)) (sym (L .starts-are)) (sym (L .counters)) (held table words starts (L .target) few-words few-starts r g)
+
 -- ---- both arenas compared
-module _ (t w s : List ℕ) (c : Counters) (m : ℕ) (v r : List ℕ) (d : Counters) (n : ℕ) (ns : List Name) (a b : Arena) where
-  judged-equal : names-of t ≡ some ns → Holds (length ns) w s c a → m < length a → Holds (length ns) v r d b → n < length b → equal-reply t w s c m t v r d n ≡ ok (equal ns a m ns b n)
-  unfolding equal-reply lent-to equal-roots
-  judged-equal p H l K k =
-      tabled-yes _ (names-of t) ns p ∙ judged-yes (length ns) w s c _ a H
-      ∙ tabled-yes _ (names-of t) ns p ∙ judged-yes (length ns) v r d _ b K
-      ∙ rooted-yes m (λ (x : Arena). rooted n (λ (y : Arena). ok (equal ns x m ns y n)) b) a l ∙ rooted-yes n (λ (y : Arena). ok (equal ns a m ns y n)) b k
+module _ {t w s : List ℕ} {c : Counters} {u v r : List ℕ} {d : Counters} (S : Side t w s c) (T : Side u v r d) (m n : ℕ) where
+  judged-equal : m < length (S .view) → n < length (T .view) → equal-reply t w s c m u v r d n ≡ ok (equal (S .names) (S .view) m (T .names) (T .view) n)
+  unfolding equal-reply equal-roots
+  judged-equal l k =
+      sym (side-to S (λ (ns : List Name) (a : Arena). lent-to u v r d (λ (ms : List Name) (b : Arena). equal-roots m n ns a ms b)))
+      ∙ sym (side-to T (λ (ms : List Name) (b : Arena). equal-roots m n (S .names) (S .view) ms b))
+      ∙ rooted-yes m (λ (x : Arena). rooted n (λ (y : Arena). ok (equal (S .names) x m (T .names) y n)) (T .view)) (S .view) l
+      ∙ rooted-yes n (λ (y : Arena). ok (equal (S .names) (S .view) m (T .names) y n)) (T .view) k
+
+  -- two nodes with one tree are told to be equal
+  pub told-equal : m < length (S .view) → n < length (T .view) → tree (S .names) (S .view) m ≡ tree (T .names) (T .view) n → equal-reply t w s c m u v r d n ≡ ok true
+  unfolding equal
+  told-equal l k e = judged-equal l k ∙ ap ok (same-if tree-dec (tree (S .names) (S .view) m) (tree (T .names) (T .view) n) e)
 
 -- a finished copy is equal to what was copied, under the same names
 pub compact-equal : CompactEqual
-unfolding compact-reply compacted equal tree has-room sound
+unfolding compact-reply compacted tree has-room sound
 compact-equal t w s c root tw ts d m d′ tw′ ts′ e = go (source t w s c root tw ts) refl e
   where
-    answered : (u : Arena) → Source t w s c root tw ts u → Copied tw ts u root m d′ tw′ ts′ → equal-reply t w s c root t tw′ ts′ d′ m ≡ ok true
-    answered u S C =
+    answered : (u : Arena) → Source t w s c root tw ts u → Left (length tw) (length ts) (copy (length tw) (length ts) u root []) m d′ tw′ ts′ → equal-reply t w s c root t tw′ ts′ d′ m ≡ ok true
+    answered u S L =
         let ns = S .names in
         let g = S .holds .good in
-        let b = C .target in
-        let F = compact-sound (length tw) (length ts) (length ns) (S .few-starts) u g root m b (S .inside) (C .run) in
-        let R = copy-room (length tw) (length ts) (length ns) u g (suc root) root (omega arith) (S .inside) [] m b (both (le-leb 0 (length tw) (omega arith)) (le-leb 0 (length ts) (omega arith))) (C .run) in
-        let H = held (length ns) (length tw) (length ts) b (S .few-words) (S .few-starts) R F in
-        let K : Holds (length ns) tw′ ts′ d′ b = subst (λ (i : Counters). Holds (length ns) tw′ ts′ i b) (sym (C .counters)) (subst (λ (x : List ℕ). Holds (length ns) x ts′ (counters-of b) b) (sym (C .words)) (subst (λ (x : List ℕ). Holds (length ns) (words-of (length tw) b) x (counters-of b) b) (sym (C .starts)) H)) in
-        judged-equal t w s c root tw′ ts′ d′ m ns u b (S .is) (S .holds) (S .inside) K (compact-inside (length tw) (length ts) (length ns) (S .few-starts) u g root m b (S .inside) (C .run))
-        ∙ ap ok (same-if tree-dec (tree ns u root) (tree ns b m) (sym (compact-fold (λ (x : Tag) (xs : List Tree). over (label-of ns x) xs) (length tw) (length ts) (length ns) u root m b (record { few = S .few-starts; good = g; inside = S .inside; run = C .run }))))
+        let b = L .target in
+        let F = compact-sound (length tw) (length ts) (length ns) (S .few-starts) u g root m b (S .inside) (L .run) in
+        let R = copy-room (length tw) (length ts) (length ns) u g (suc root) root (omega arith) (S .inside) [] m b (both (le-leb 0 (length tw) (omega arith)) (le-leb 0 (length ts) (omega arith))) (L .run) in
+        told-equal (record { names = ns; is = S .is; view = u; holds = S .holds }) (record { names = ns; is = S .is; view = b; holds = left-held L (S .few-words) (S .few-starts) R F }) root m
+        (S .inside) (compact-inside (length tw) (length ts) (length ns) (S .few-starts) u g root m b (S .inside) (L .run))
+        (sym (compact-fold (λ (x : Tag) (xs : List Tree). over (label-of ns x) xs) (length tw) (length ts) (length ns) u root m b (record { few = S .few-starts; good = g; inside = S .inside; run = L .run })))
 
     go : (o : Out Arena) → source t w s c root tw ts ≡ o → compacted root tw ts d o ≡ reply (ok m) d′ tw′ ts′ → equal-reply t w s c root t tw′ ts′ d′ m ≡ ok true
     go (refuse n) p f = absurd (reply-not f)
-    go (ok u) p f = answered u (lent-so t w s c root tw ts u p) (copied-so tw ts u root f)
+    go (ok u) p f = answered u (lent-so t w s c root tw ts u p) (copied-so tw ts _ f)

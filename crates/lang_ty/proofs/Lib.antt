@@ -2,7 +2,9 @@ pub mod Telling
 pub mod Numbers
 pub mod Passes
 pub mod Works
-pub mod Successes
 pub mod Copies
+pub mod ImportedTrees
+pub mod Imports
+pub mod Successes
 pub mod Needing
 pub mod Prints

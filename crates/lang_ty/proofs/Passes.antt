@@ -43,8 +43,8 @@ module _ (words starts : ℕ) where
   unfolding apply-step
   step-numbered s x f h R a =
       by-option Numbered (list-kind (tag x))
-      (λ k. then-numbered (each-numbered (λ c. h c R) (remaining R s (children x)) a) (λ r. gather-numbered k (f (getD (children x) 0 0) no-variable) (h (getD (children x) 0 0) no-variable) (r .0) (r .1)))
-      (rebuild-numbered words starts (tag x) (children x) (λ c. h c R) a)
+      (λ k. then-numbered (each-numbered (remaining R s (children x)) (λ c _. h c R) a) (λ r. gather-numbered k (f (getD (children x) 0 0) no-variable) (h (getD (children x) 0 0) no-variable) (r .0) (r .1)))
+      (rebuild-numbered words starts (tag x) (children x) (λ c _. h c R) a)
 
   pass-numbered : (root : ℕ) → NumberedJob (pass words starts root)
   unfolding pass apply

@@ -1,7 +1,7 @@
--- 0 means success, and a refusal's number is at most 10, or 11 where a sheet is converted, of every call that can be refused: after the numbers that calls share, 1, 2 and 6, come those of the call's own.
-use Prim.Native.Nat.{ℕ, min}
+-- 0 means success, and a refusal's number is at most 10, or 11 where a sheet is converted, or 12 where a type is imported, of every call that can be refused: after the numbers that calls share, 1, 2 and 6, come those of the call's own.
+use Prim.Native.Nat.{ℕ, min, _<_, _≤_}
 use native.Mathlib.Omega.{arith}
-use mathlib.Core.Path.{_≡_}
+use mathlib.Core.Path.{_≡_, refl}
 use mathlib.Core.List.{List, []}
 use lib.ListN.{length}
 use lib.Dec.{ltb, leb}
@@ -10,7 +10,7 @@ use Rattle.types.specs.Out.{Out, ok, refuse}
 use Rattle.types.specs.Node.{tag, names, guess, is-words, linked, rising, decode, decode-in}
 use Rattle.types.specs.Arena.{Arena, at}
 use Rattle.types.specs.Memory.{arena-of}
-use Rattle.types.specs.Reply.{Reply, reply, reply-of, tabled, judged}
+use Rattle.types.specs.Reply.{Reply, reply, tabled, judged}
 use Rattle.types.specs.declared.Counters.{Counters}
 use Rattle.names.specs.Table.{Name, split, names-of}
 use Rattle.names.specs.Reply.{table-reply, stretch, name-reply}
@@ -20,7 +20,8 @@ use Rattle.arena.specs.Intern.{interning, intern-reply}
 use Rattle.arena.specs.Compare.{comparing, compare-reply}
 use Rattle.walks.specs.Asked.{asking, ask-reply}
 use Rattle.equal.specs.Equal.{equal}
-use Rattle.equal.specs.Reply.{lent-to, equal-roots, equal-reply}
+use Rattle.soundness.specs.Lent.{lent-to}
+use Rattle.equal.specs.Reply.{equal-roots, equal-reply}
 use Rattle.spelling.specs.declared.Spelling.{Spelling}
 use Rattle.spelling.specs.declared.Spelling.the-variants as spelling
 use Rattle.text_writing.specs.Text.{type-text}
@@ -35,24 +36,20 @@ use Rattle.renumber.specs.Renumber.{normalize}
 use Rattle.set_op_lists.specs.SetOps.{normalize-set-ops}
 use Rattle.simplify.specs.Simplify.{answered, simplify-reply}
 use Rattle.compact.specs.Compact.{over-limit, limited, cleared, empty, source, compacted, compact-reply}
-use Rattle.lang_ty.specs.Theorems.{ToldZero, ArenaZero}
-use Rattle.lang_ty.specs.Numbered.{Numbered, value, refusal, Converted, done, eleven, answer-of, length-of}
+use Rattle.lang_ty.specs.Told.{told, tell}
+use Rattle.lang_ty.specs.Theorems.{ToldZero, ArenaZero, ImportZero}
+use Rattle.lang_ty.specs.Numbered.{Numbered, value, refusal, Converted, done, eleven, Imported, numbered, twelve, ZeroIsValue, answer-of, length-of}
 use Rattle.lang_ty.specs.Theorems.{AllNumbered}
-use Rattle.lang_ty.proofs.Numbers.{NumberedJob, refusal-high, refusal-low, by-test, required-numbered, then-numbered, rooted-numbered, intern-numbered}
+use Rattle.lang_ty.proofs.Numbers.{NumberedJob, refusal-high, refusal-low, by-test, required-numbered, then-numbered, rooted-numbered, reply-numbered, intern-numbered}
 use Rattle.lang_ty.proofs.Passes.{simplify-numbered}
 use Rattle.lang_ty.proofs.Works.{normalize-numbered, set-ops-numbered, copy-numbered}
+use Rattle.lang_ty.proofs.Imports.{import-numbered}
 
 -- ---- 1 and 2
 module _ {A : Type 0} (t w s : List ℕ) (c : Counters) {f : List Name → Arena → Out A} (h : (ns : List Name) (a : Arena) → Numbered (f ns a)) where
   lent-numbered : Numbered (tabled (names-of t) (λ (ns : List Name). judged (length ns) w s c (f ns)))
   unfolding tabled judged
   lent-numbered = required-numbered (omega arith) (omega arith) (names-of t) (λ ns. required-numbered (omega arith) (omega arith) (arena-of (length ns) w s c) (h ns))
-
--- what is answered and left
-reply-numbered : {A : Type 0} (w s : List ℕ) (c : Counters) {o : Out (A × Arena)} → Numbered o → Numbered (answer-of (reply-of w s c o))
-unfolding reply-of
-reply-numbered w s c (value r) = value (r .0)
-reply-numbered w s c (refusal l m) = refusal l m
 
 -- ---- calls that only read
 pub table-numbered : (t : List ℕ) → Numbered (table-reply t)
@@ -173,14 +170,28 @@ all-numbered = record {
   normalize-vars = λ replacing. work-numbered (normalize replacing) (λ words starts. normalize-numbered words starts replacing);
   normalize-set-ops = work-numbered normalize-set-ops set-ops-numbered;
   compact = compact-numbered;
+  import-from-arena = import-numbered;
 }
 
 -- ---- what a host knows of the number that it is told
-pub told-zero : {A : Type 0} (old : A) (o : Out A) {r : ℕ} {x : A} → ToldZero old o r x
-told-zero old (ok y) {r = r} N e = let p : r ≡ 0 = cc in record { zero = λ q. cc; value = λ z q. cc; most = omega arith }
-told-zero old (refuse n) {r = r} N e =
-    let p : r ≡ n = cc in
-    record { zero = λ q. absurd (omega (arith, p, q, refusal-high N)); value = λ z q. absurd (ok-refuse q); most = omega (arith, p, refusal-low N) }
+module _ {A : Type 0} (old : A) where
+  -- of an answer whose refusals have numbers from 1 to a highest
+  zero-is-value : (highest : ℕ) (o : Out A) → ((n : ℕ) → o ≡ refuse n → (0 < n) × (n ≤ highest)) → {r : ℕ} {x : A} → told r x ≡ tell old o → ZeroIsValue highest r x o
+  zero-is-value highest (ok y) h {r} e = let p : r ≡ 0 = cc in record { zero = λ q. cc; value = λ z q. cc; most = omega arith }
+  zero-is-value highest (refuse n) h {r} e =
+      let p : r ≡ n = cc in
+      let k = h n refl in
+      record { zero = λ q. absurd (omega (arith, p, q, k .0)); value = λ z q. absurd (ok-refuse q); most = omega (arith, p, k .1) }
 
-pub arena-zero : {A : Type 0} (old : A) (y : Reply A) {r : ℕ} {x : A} {d : Counters} {w s : List ℕ} → ArenaZero old y r x d w s
-arena-zero old (reply o c v u) N e = told-zero old o N (cc)
+  pub told-zero : (o : Out A) {r : ℕ} {x : A} → ToldZero old o r x
+  told-zero o N = zero-is-value 10 o (λ n q. let M : Numbered (refuse n) = rw q at N in (refusal-high M, refusal-low M))
+
+  pub arena-zero : (y : Reply A) {r : ℕ} {x : A} {d : Counters} {w s : List ℕ} → ArenaZero old y r x d w s
+  arena-zero (reply o c v u) N e = told-zero o N (cc)
+
+  pub import-zero : (y : Reply A) {r : ℕ} {x : A} {d : Counters} {w s : List ℕ} → ImportZero old y r x d w s
+  import-zero (reply o c v u) I e = zero-is-value 12 o (imported I) (cc)
+    where
+      imported : {o : Out A} → Imported o → (n : ℕ) → o ≡ refuse n → (0 < n) × (n ≤ 12)
+      imported (numbered N) n q = let M : Numbered (refuse n) = rw q at N in (refusal-high M, omega (arith, refusal-low M))
+      imported twelve n q = let p : 12 ≡ n = cc in (omega (arith, p), omega (arith, p))

@@ -30,7 +30,7 @@ module _ (words starts : ℕ) where
   -- ---- variables by their places in a list
   renumber-step-numbered : (vars : List ℕ) (s : Arena) (x : Node) (f : ℕ → Job) → ((n : ℕ) → NumberedJob (f n)) → NumberedJob (renumber-step vars words starts s x f)
   unfolding renumber-step
-  renumber-step-numbered vars s x f h a = by-option Numbered (var-number (tag x)) (λ v. intern-numbered words starts (var-node (index vars v)) a) (rebuild-numbered words starts (tag x) (children x) h a)
+  renumber-step-numbered vars s x f h a = by-option Numbered (var-number (tag x)) (λ v. intern-numbered words starts (var-node (index vars v)) a) (rebuild-numbered words starts (tag x) (children x) (λ c _. h c) a)
 
   by-vars-numbered : (root : ℕ) (vars : List ℕ) → NumberedJob (by-vars words starts root vars)
   unfolding by-vars renumbered
@@ -54,7 +54,7 @@ module _ (words starts : ℕ) where
   set-ops-step-numbered : (s : Arena) (x : Node) (f : ℕ → Job) → ((n : ℕ) → NumberedJob (f n)) → NumberedJob (set-ops-step words starts s x f)
   unfolding set-ops-step
   set-ops-step-numbered s x f h a =
-      by-option Numbered (list-kind (tag x)) (λ k. then-numbered (flatten-numbered k f h [] (children x) a) (λ r. stand-for-numbered k (sort (r .1) (r .0)) (r .1))) (rebuild-numbered words starts (tag x) (children x) h a)
+      by-option Numbered (list-kind (tag x)) (λ k. then-numbered (flatten-numbered k f h [] (children x) a) (λ r. stand-for-numbered k (sort (r .1) (r .0)) (r .1))) (rebuild-numbered words starts (tag x) (children x) (λ c _. h c) a)
 
   pub set-ops-numbered : (root : ℕ) → NumberedJob (normalize-set-ops words starts root)
   unfolding normalize-set-ops normalize-lists
@@ -63,4 +63,4 @@ module _ (words starts : ℕ) where
   -- ---- a copy
   pub copy-numbered : (u : Arena) (root : ℕ) → NumberedJob (copy words starts u root)
   unfolding copy
-  copy-numbered u root = rec-all NumberedJob (λ b. refusal (omega arith) (omega arith)) (λ s x f h. rebuild-numbered words starts (tag x) (children x) h) u root
+  copy-numbered u root = rec-all NumberedJob (λ b. refusal (omega arith) (omega arith)) (λ s x f h. rebuild-numbered words starts (tag x) (children x) (λ c _. h c)) u root

@@ -1,21 +1,26 @@
 -- What is shown of these definitions beyond the contracts. A statement with parameters holds for all of them.
-use Prim.Native.Nat.{ℕ, _<_}
+use Prim.Native.Nat.{ℕ, _<_, _≤_}
 use mathlib.Core.Path.{_≡_}
 use mathlib.Core.Bool.{true, Bool}
-use mathlib.Core.List.{List}
-use lib.ListN.{length}
-use Rattle.types.specs.Out.{Out, ok}
+use mathlib.Core.List.{List, [], List·Memᴰ as Mem}
+use mathlib.Core.Logic.{_↔_}
+use mathlib.Core.Option.{some}
+use lib.ListN.{length, getD, take}
+use Rattle.types.specs.Out.{Out, ok, refuse}
+use Rattle.types.specs.Node.{tag, names}
 use Rattle.types.specs.Reply.{Reply, reply}
 use Rattle.types.specs.declared.Counters.{Counters}
 use Rattle.equal.specs.Reply.{equal-reply}
 use Rattle.compact.specs.Compact.{compact-reply}
+use Rattle.import.specs.Import.{import-reply}
 use Rattle.lang_ty.specs.Told.{told, tell, told-arena, tell-arena}
-use Rattle.lang_ty.specs.Numbered.{Numbered, Converted, ZeroIsValue, answer-of, length-of}
-use Rattle.types.specs.Arena.{Arena, sound}
+use Rattle.lang_ty.specs.Numbered.{Numbered, Converted, Imported, ZeroIsValue, answer-of, length-of}
+use Rattle.types.specs.Arena.{Arena, at, sound, Ext}
+use Rattle.types.specs.Places.{Reachable}
 use Rattle.types.specs.Memory.{Holds}
 use Rattle.walks.specs.Asked.{ask-reply}
 use Rattle.questions.specs.Vars.{has-type-vars}
-use Rattle.names.specs.Table.{split}
+use Rattle.names.specs.Table.{Name, split, names-of}
 use Rattle.names.specs.Reply.{table-reply, name-reply}
 use Rattle.name_lookup.specs.Lookup.{find-reply}
 use Rattle.arena.specs.Intern.{intern-reply}
@@ -32,11 +37,15 @@ use Rattle.lang_ty.specs.Needs.{needs-var-normalization}
 
 -- 0 is told exactly of a value, which then is the lent result (01, "Who can cause which number")
 abbrev pub ToldZero : {A : Type 0} → A → Out A → ℕ → A → Type 0
-ToldZero old o r x = Numbered o → told r x ≡ tell old o → ZeroIsValue r x o
+ToldZero old o r x = Numbered o → told r x ≡ tell old o → ZeroIsValue 10 r x o
 
 -- the same of a call that is lent an arena to change
 abbrev pub ArenaZero : {A : Type 0} → A → Reply A → ℕ → A → Counters → List ℕ → List ℕ → Type 0
-ArenaZero old y r x d w s = Numbered (answer-of y) → told-arena r x d w s ≡ tell-arena old y → ZeroIsValue r x (answer-of y)
+ArenaZero old y r x d w s = Numbered (answer-of y) → told-arena r x d w s ≡ tell-arena old y → ZeroIsValue 10 r x (answer-of y)
+
+-- the same of `import_from_arena`, which may be refused by 12 (02, A4)
+abbrev pub ImportZero : {A : Type 0} → A → Reply A → ℕ → A → Counters → List ℕ → List ℕ → Type 0
+ImportZero old y r x d w s = Imported (answer-of y) → told-arena r x d w s ≡ tell-arena old y → ZeroIsValue 12 r x (answer-of y)
 
 -- a type that `compact` has copied is structurally equal to what it was copied from: `structurally_eq` then answers yes, under the same
 -- names (01, "arena")
@@ -44,6 +53,59 @@ abbrev pub CompactEqual : Type 0
 CompactEqual =
     (t w s : List ℕ) (c : Counters) (root : ℕ) (tw ts : List ℕ) (d : Counters) (m : ℕ) (d′ : Counters) (tw′ ts′ : List ℕ)
     → compact-reply t w s c root tw ts d ≡ reply (ok m) d′ tw′ ts′ → equal-reply t w s c root t tw′ ts′ d′ m ≡ ok true
+
+-- a type that `import_from_arena` has imported is structurally equal to what it was imported from: `structurally_eq` then answers yes,
+-- under both tables, so that names agree by their texts (02, A4)
+abbrev pub ImportEqual : Type 0
+ImportEqual =
+    (t w s : List ℕ) (c : Counters) (root : ℕ) (tt tw ts : List ℕ) (d : Counters) (m : ℕ) (d′ : Counters) (tw′ ts′ : List ℕ)
+    → import-reply t w s c root tt tw ts d ≡ reply (ok m) d′ tw′ ts′ → equal-reply t w s c root tt tw′ ts′ d′ m ≡ ok true
+
+-- each node that the target had keeps its number, its words and its start (02, A4)
+pub record ImportKept (tt tw ts : List ℕ) (d d′ : Counters) (tw′ ts′ : List ℕ) : Type 0 where
+  pub words : take (d .words) tw′ ≡ take (d .words) tw
+  pub starts : take (d .nodes) ts′ ≡ take (d .nodes) ts
+  pub more-words : d .words ≤ d′ .words
+  pub more-nodes : d .nodes ≤ d′ .nodes
+  pub names : List Name
+  pub is : names-of tt ≡ some names
+  pub before : Arena
+  pub held-before : Holds (length names) tw ts d before
+  pub after : Arena
+  pub held-after : Holds (length names) tw′ ts′ d′ after
+  pub grown : Ext before after
+
+abbrev pub ImportKeeps : Type 0
+ImportKeeps =
+    (t w s : List ℕ) (c : Counters) (root : ℕ) (tt tw ts : List ℕ) (d : Counters) (m : ℕ) (d′ : Counters) (tw′ ts′ : List ℕ)
+    → import-reply t w s c root tt tw ts d ≡ reply (ok m) d′ tw′ ts′ → ImportKept tt tw ts d d′ tw′ ts′
+
+-- where the target holds the type already, its number is answered and nothing is added, whatever room there is (02, A4)
+abbrev pub ImportThere : Type 0
+ImportThere =
+    (t w s : List ℕ) (c : Counters) (root : ℕ) (tt tw ts : List ℕ) (d : Counters) (k : ℕ)
+    → equal-reply t w s c root tt tw ts d k ≡ ok true → import-reply t w s c root tt tw ts d ≡ reply (ok k) d tw ts
+
+-- so a second call answers the same and adds nothing (02, A4)
+abbrev pub ImportAgain : Type 0
+ImportAgain =
+    (t w s : List ℕ) (c : Counters) (root : ℕ) (tt tw ts : List ℕ) (d : Counters) (m : ℕ) (d′ : Counters) (tw′ ts′ : List ℕ)
+    → import-reply t w s c root tt tw ts d ≡ reply (ok m) d′ tw′ ts′ → import-reply t w s c root tt tw′ ts′ d′ ≡ reply (ok m) d′ tw′ ts′
+
+-- a node that is reachable from the root carries a name of whose text the target's table has none
+pub record NameLacking (ns ms : List Name) (u : Arena) (root : ℕ) : Type 0 where
+  pub node : ℕ
+  pub reachable : Reachable u root node
+  pub name : ℕ
+  pub carried : Mem name (names (tag (at u node)))
+  pub lacked : (p : ℕ) → p < length ms → getD ms p [] ≡ getD ns name [] → ⊥
+
+-- exactly then the call is refused by 12, also where there is no room for a node (02, A4)
+abbrev pub TwelveExactly : Type 0
+TwelveExactly =
+    (t w s : List ℕ) (c : Counters) (root : ℕ) (tt tw ts : List ℕ) (d : Counters) (ns ms : List Name) (u b : Arena)
+    → names-of t ≡ some ns → Holds (length ns) w s c u → names-of tt ≡ some ms → Holds (length ms) tw ts d b → root < length u
+    → (import-reply t w s c root tt tw ts d ≡ reply (refuse 12) d tw ts) ↔ NameLacking ns ms u root
 
 -- `needs_var_normalization` asks what `has_type_vars` asks, so that the contract of both is the same (01, "arena")
 pub record NeedsIsHas : Type 0 where
@@ -59,8 +121,8 @@ PlainPrintsAlike =
     → ((table : ℕ) (a : Arena) → Holds table w s c a → PlainType (split t) a root)
     → display-nix-reply t w s c root b ≡ display-reply t w s c root b
 
--- of what each call is defined to answer the number is 0 exactly for a value, and at most 10, but for `convert_sheet` 0 or 11. A call that
--- is never refused isn't listed: it always answers 0
+-- of what each call is defined to answer the number is 0 exactly for a value, and at most 10, but for `convert_sheet` 0 or 11, and for
+-- `import_from_arena` at most 10 or 12. A call that is never refused isn't listed: it always answers 0
 pub record AllNumbered : Type 1 where
   pub table : (t : List ℕ) → Numbered (table-reply t)
   pub name : (t : List ℕ) (number : ℕ) → Numbered (name-reply t number)
@@ -79,3 +141,5 @@ pub record AllNumbered : Type 1 where
   pub normalize-set-ops : (t w s : List ℕ) (c : Counters) (root : ℕ) → Numbered (answer-of (work-reply normalize-set-ops t w s c root))
   pub compact : (t w s : List ℕ) (c : Counters) (root : ℕ) (tw ts : List ℕ) (d : Counters)
       → Numbered (answer-of (compact-reply t w s c root tw ts d))
+  pub import-from-arena : (t w s : List ℕ) (c : Counters) (root : ℕ) (tt tw ts : List ℕ) (d : Counters)
+      → Imported (answer-of (import-reply t w s c root tt tw ts d))

@@ -3,6 +3,7 @@
 // writes none, but 7 clears the target of `compact`.
 use compact::Copied;
 use compact::compact;
+use import::import_from_arena;
 use node_store::added::Interned;
 use renumber::normalize_replacing_unknown;
 use renumber::normalize_vars;
@@ -17,6 +18,7 @@ ghost use Rattle.renumber.specs.Renumber.{normalize};
 ghost use Rattle.set_op_lists.specs.SetOps.{normalize-set-ops};
 ghost use Rattle.types.specs.Out.{number as refusal-number};
 ghost use Rattle.compact.specs.Compact.{compact-reply, answered};
+ghost use Rattle.import.specs.Import.{import-reply};
 ghost use Rattle.lang_ty.specs.Told.{told-arena, tell-arena};
 ghost use Rattle.lang_ty_rewriting.specs.Inner.{TellsWorked};
 ghost use Rattle.lang_ty_rewriting.specs.Changed.{TellsSimplified};
@@ -193,4 +195,46 @@ pub extern "C" fn lang_ty_compact(
     };
     *root_after = n;
     0
+}
+
+// The type of the root, imported into a target with its own name table.
+#[no_mangle]
+pub extern "C" fn lang_ty_import_from_arena(
+    table: &[u8],
+    words: &[u32],
+    starts: &[u32],
+    nodes: usize,
+    used: usize,
+    root: u32,
+    target_table: &[u8],
+    target_words: &mut [u32],
+    target_starts: &mut [u32],
+    target_nodes: &mut usize,
+    target_used: &mut usize,
+    root_after: &mut u32,
+) -> u32
+    ensures { λ r. ⌜ told-arena r (now («root_after» .exit))
+        record { nodes = now («target_nodes» .exit); words = now («target_used» .exit) } (now («target_words» .exit))
+        (now («target_starts» .exit))
+        ≡ tell-arena (now («root_after» .entry)) (import-reply (now (table .entry)) (now (words .entry)) (now (starts .entry))
+        record { nodes = nodes; words = used } root (now («target_table» .entry)) (now («target_words» .entry))
+        (now («target_starts» .entry)) record { nodes = now («target_nodes» .entry); words = now («target_used» .entry) }) ⌝ }
+{
+    let source = Counters { nodes, words: used };
+    let target = Counters {
+        nodes: *target_nodes,
+        words: *target_used,
+    };
+    let answer = import_from_arena(
+        table,
+        words,
+        starts,
+        source,
+        root,
+        target_table,
+        target_words,
+        target_starts,
+        target,
+    );
+    tell_worked(answer, target_nodes, target_used, root_after)
 }

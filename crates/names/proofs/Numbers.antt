@@ -82,3 +82,7 @@ number-order t ns e i j h k =
     (λ l. rising-at ns rises i j l k ∙ sym (order-less i j l))
     (λ l. ap (λ (w : ℕ). name-order (getD ns i []) (getD ns w [])) (sym l) ∙ name-order-total .refl-equal _ ∙ sym (order-equal i j l))
     (λ l. name-order-total .turned _ _ ∙ ap reversed (rising-at ns rises j i l h) ∙ sym (order-greater i j l))
+
+-- different names have different texts
+pub text-number : (t : List ℕ) (ns : List Name) → names-of t ≡ some ns → (i j : ℕ) → i < length ns → j < length ns → getD ns i [] ≡ getD ns j [] → i ≡ j
+text-number t ns e i j h k q = order-total .equal i j (sym (number-order t ns e i j h k) ∙ same-order q)

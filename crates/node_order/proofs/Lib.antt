@@ -6,3 +6,4 @@ pub mod Parts
 pub mod Splits
 pub mod NodeOrders
 pub mod Agreement
+pub mod Fielded

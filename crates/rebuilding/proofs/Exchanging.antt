@@ -111,7 +111,7 @@ module _ {ws items : List ℕ} {count : ℕ} {old : List ℕ} (E : Exchanging ws
 
 -- ---- the words of the node
 -- a node with children has no number of its own
-no-numbers : (t : Tag) (cs : List ℕ) → Formed t cs → 0 < length cs → data-of t .numbers ≡ []
+pub no-numbers : (t : Tag) (cs : List ℕ) → Formed t cs → 0 < length cs → data-of t .numbers ≡ []
 unfolding body-count child-words-in
 no-numbers (members positive) cs F l = refl
 no-numbers (members negative) cs F l = refl

@@ -11,7 +11,7 @@ use mir.Syntax.{w64}
 use mir.Val.{Fits}
 use Rattle.words.specs.Words.{child}
 use Rattle.types.specs.Same.{same-numbers}
-use Rattle.types.specs.Node.{Node, node, tag, children, encode, below, formed, well, IsNode}
+use Rattle.types.specs.Node.{Node, node, tag, children, encode, below, well, IsNode}
 use Rattle.types.specs.Arena.{Arena, at}
 use Rattle.types.specs.Fault.{children-in}
 use Rattle.types.specs.Memory.{Holds}
@@ -19,8 +19,8 @@ use Rattle.types.specs.Reply.{reply-of}
 use Rattle.types.specs.declared.Counters.{Counters}
 use Rattle.types.proofs.Tests.{true-false, numbers-true, numbers-if}
 use Rattle.types.proofs.Lists.{below-more}
-use Rattle.types.proofs.Nodes.{nil, formed-parts}
-use Rattle.types.proofs.Sound.{at-well, at-formed}
+use Rattle.types.proofs.Nodes.{nil}
+use Rattle.types.proofs.Sound.{at-well}
 use Rattle.types.proofs.Addresses.{start-room}
 use Rattle.node_store.specs.Inner.Stored.{InRange, NodeAt}
 use Rattle.node_store.specs.Inner.Added.{Fresh, Interns}
@@ -31,8 +31,9 @@ use Rattle.recursion.proofs.Interning.{node-is, well-again, intern-there}
 use Rattle.node_store.specs.Inner.Children.{ChildWords}
 use Rattle.node_store.proofs.Offspring as offspring
 use Rattle.rebuilding.specs.Inner.Rebuilt.{AsMany, OneEach, Exchanging, Exchanged, Rebuilding, Rebuilds}
-use Rattle.rebuilding.proofs.Copying.{children-read, few-read}
-use Rattle.rebuilding.proofs.Exchanging.{length-given, exchanged-encode}
+use Rattle.rebuilding.proofs.Copying.{children-read}
+use Rattle.rebuilding.proofs.Exchanging.{length-given}
+use Rattle.rebuilding.proofs.Given.{given-many, given-count, given-words}
 
 module _ {w s : List ℕ} {c : Counters} {n : ℕ} {items : List ℕ} {count : ℕ} (B : Rebuilding w s c n items count) {i : ℕ} (e : i ≡ n) {ws : List ℕ} (M : NodeAt w s c i ws) where
   here : InRange w s c n
@@ -50,11 +51,8 @@ module _ {w s : List ℕ} {c : Counters} {n : ℕ} {items : List ℕ} {count : �
     read = children-read here N H
 
   pub as-many : AsMany ws items count
-  as-many = record {
-    long = B .long;
-    few = omega (arith, B .count-is, few-read here N, ap length (read (B .lent .holds)));
-    count-is = omega (arith, B .count-is, ap length (read (B .lent .holds)));
-  }
+  unfolding here
+  as-many = given-many here N items count (B .long) (B .count-is)
 
   pub length-fits : Fits w64 (count + 1)
   length-fits = omega (arith, as-many .few)
@@ -105,14 +103,14 @@ module _ {w s : List ℕ} {c : Counters} {n : ℕ} {items : List ℕ} {count : �
 
       -- the words are those of the node with these children, which may be added
       is-node : {table : ℕ} {a : Arena} → Holds table w s c a → IsNode table (length a) (take (count + 1) new) (node (tag (at a n)) (take count items))
-      is-node {table} {a} H = go (at a n) (N .is table a H) (at-well table a (H .good) n (inside-a H)) (at-formed table a (H .good) n (inside-a H)) (as-many .count-is ∙ ap length (read H))
+      is-node {table} {a} H = go (at a n) (at-well table a (H .good) n (inside-a H)) (given-count here N as-many H) (given-words here N as-many H p X)
         where
           low : below (length a) (take count items) ≡ true
           low = subst (λ (k : ℕ). below k (take count items) ≡ true) (H .nodes) (B .low)
 
-          go : (x : Node) → ws ≡ encode x → well table n x ≡ true → formed x ≡ true → count ≡ length (children x) → IsNode table (length a) (take (count + 1) new) (node (tag x) (take count items))
-          go (node t cs) v g f k = record {
-            words = exchanged-encode t cs (formed-parts t cs f) k p (as-many .few) (length-given as-many) (subst (λ (l : List ℕ). Exchanged l items count new) v X);
+          go : (x : Node) → well table n x ≡ true → count ≡ length (children x) → take (count + 1) new ≡ encode (node (tag x) (take count items)) → IsNode table (length a) (take (count + 1) new) (node (tag x) (take count items))
+          go (node t cs) g k v = record {
+            words = v;
             good = well-again table (length a) (omega (arith, few-nodes, H .nodes)) n t cs (take count items) g (length-given as-many ∙ k) low;
           }
 

@@ -26,20 +26,20 @@ use Rattle.recursion.specs.Inner.Hosted.{LeadsOnce, done, stop, Works, W
 use Rattle.recursion.proofs.Leading.{Stopped}
 
 -- ---- outcomes taken apart
-record Finished (table : ℕ) (w s : List ℕ) (n : ℕ) (d : Counters) (o : Out (ℕ × Arena)) : Type 0 where
+pub record Finished (table : ℕ) (w s : List ℕ) (n : ℕ) (d : Counters) (o : Out (ℕ × Arena)) : Type 0 where
   pub arena : Arena
   pub is : o ≡ ok (n, arena)
   pub holds : Holds table w s d arena
 
 module _ {table : ℕ} {a : Arena} {w s : List ℕ} where
-  finished : {r : Interned} {o : Out (ℕ × Arena)} {n : ℕ} {d : Counters} → LeadsOnce table a w s r o → r ≡ interned.Node n d → Finished table w s n d o
+  pub finished : {r : Interned} {o : Out (ℕ × Arena)} {n : ℕ} {d : Counters} → LeadsOnce table a w s r o → r ≡ interned.Node n d → Finished table w s n d o
   finished {n = n} {d = d} (done {m = m} {d = f} {b = b} H E l) e =
       let x : m ≡ n = cc in
       let y : f ≡ d = cc in
       record { arena = b; is = ap (λ (i : ℕ). ok (i, b)) x; holds = subst (λ (g : Counters). Holds table w s g b) y H }
   finished (stop S) e = let z : _≡_ {A = ℕ} 0 1 = cc in absurd (omega arith)
 
-  stopped : {r : Interned} {o : Out (ℕ × Arena)} {x : ℕ} → LeadsOnce table a w s r o → r ≡ interned.Refused x → Stopped a w s x o
+  pub stopped : {r : Interned} {o : Out (ℕ × Arena)} {x : ℕ} → LeadsOnce table a w s r o → r ≡ interned.Refused x → Stopped a w s x o
   stopped (done H E l) e = let z : _≡_ {A = ℕ} 0 1 = cc in absurd (omega arith)
   stopped {x = x} (stop {e = y} S) e = let p : y ≡ x = cc in record { is = ap refuse p; stands = S }
 

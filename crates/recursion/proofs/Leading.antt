@@ -130,6 +130,11 @@ module _ {table : ℕ} {a : Arena} {f : ℕ → Job} {size : ℕ} {w s entries i
   each-stop (work.went H E C l t n low) e = let z : _≡_ {A = ℕ} 0 1 = cc in absurd (omega arith)
   each-stop {x = x} (work.stop {e = y} S) e = let p : y ≡ x = cc in record { is = ap refuse p; stands = S }
 
+-- a cache is gone with its call
+pub leads-once : {table : ℕ} {a : Arena} {f : ℕ → Job} {count : ℕ} {w s entries : List ℕ} {r : Interned} {o : Out (ℕ × Arena)} → Leads table a f count w s entries r o → LeadsOnce table a w s r o
+leads-once (done H E l C) = once.done H E l
+leads-once (stop S) = once.stop S
+
 -- ---- a reply in memory that holds b, as an outcome
 -- the arena d, with the answer m, grew from b
 pub record Grew (table : ℕ) (b : Arena) (m : ℕ) (d : Arena) : Type 0 where

@@ -10,7 +10,7 @@ use lib.Dec.{eqb}
 use borrow.Author.Tests.{eqb-true, eqb-false, lt-ltb}
 use Rattle.types.specs.Out.{Out, ok, refuse, _>>=_}
 use Rattle.types.specs.Node.{Node, node, tag, children, below, well}
-use Rattle.types.specs.Arena.{Arena, rec, sound, Ext, here}
+use Rattle.types.specs.Arena.{Arena, rec, sound, Ext, here, more}
 use Rattle.types.proofs.Lists.{below-more}
 use Rattle.types.proofs.Growth.{ext-trans, ext-length, at-new, rec-grow, rec-new}
 use Rattle.types.proofs.Sound.{sound-well, sound-tail, child-lower}
@@ -20,6 +20,11 @@ use Rattle.recursion.specs.Theorems.{Finished, Steady, There, RecSteady,
 use Rattle.recursion.proofs.Members.{index-of}
 use Rattle.recursion.proofs.Answers.{ok-refuse, ok-same, bind-parts, bind-ok}
 use Rattle.recursion.proofs.Interning.{node-is, at-later, well-again, interned, intern-there}
+
+-- every arena grew from the empty one
+pub ext-empty : (a : Arena) → Ext [] a
+ext-empty [] = here
+ext-empty (x ∷ a) = more x (ext-empty a)
 
 module _ {A : Type 0} {table : ℕ} {fits : A → Arena → Type 0} where
   pub steady-later : {start a : Arena} {j : Arena → Out (A × Arena)} → Ext start a → Steady table start fits j → Steady table a fits j
@@ -96,9 +101,9 @@ module _ (table : ℕ) (x : Node) (s : Arena) (g : sound table (x ∷ s) ≡ tru
       let low = subst (λ (y : Node). (i : ℕ) → i < length (children y) → getD (children y) i 0 < length s) (at-new x s) (child-lower table (x ∷ s) g (length s) (omega arith)) in
       omega (arith, j .is, low (j .index) (j .inside))
 
-pub rec-steady : (table : ℕ) {Y I : Type 0} (job : Y → I → Job) (step : Arena → Node → (ℕ → Y) → Y) (y : Y) (from : Arena → Arena) → RecSteady table job step y from
-rec-steady table job step y from grows steady [] g n l i = absurd (omega arith)
-rec-steady table {Y} {I} job step y from grows steady (x ∷ s) g n l i = go (eqb n (length s)) refl (rec-steady table job step y from grows steady s (sound-tail table x s g))
+pub rec-steady : (own table : ℕ) {Y I : Type 0} (job : Y → I → Job) (step : Arena → Node → (ℕ → Y) → Y) (y : Y) (from : Arena → Arena) → RecSteady own table job step y from
+rec-steady own table job step y from grows steady [] g n l i = absurd (omega arith)
+rec-steady own table {Y} {I} job step y from grows steady (x ∷ s) g n l i = go (eqb n (length s)) refl (rec-steady own table job step y from grows steady s (sound-tail own x s g))
   where
     go : (b : Bool) → eqb n (length s) ≡ b → ((n : ℕ) → n < length s → (i : I) → Steady table (from s) There (job (rec step y s n) i)) → Steady table (from (x ∷ s)) There (job (rec step y (x ∷ s) n) i)
     go true e h =

@@ -111,6 +111,10 @@ module _ {F : Recursion} {B : Relation} {w₀ s₀ : List ℕ} {c₀ : Counters}
       unfolding cs
       lower = subst (λ (y : ℕ). y < n) (sym (item-is now)) (below-at n cs (T .ready .low) i (omega (arith, h, count-cs)))
 
+      pub turn-given : x ≡ getD items₀ i 0
+      unfolding cs
+      turn-given = item-is now ∙ getD-take count items₀ i 0 h
+
       pub turn-falls : {t : ℕ} → 3 * n ≡ t → 3 * x + 2 < t
       turn-falls q = omega (arith, lower, q)
 

@@ -33,14 +33,14 @@ pub record AllThere (n : ℕ) (ms : List ℕ) (a : Arena) : Type 0 where
   pub low : below (length a) ms ≡ true
 
 -- a recursion is steady if every step is, where the steps behind it are: `job` says what is done for each i, and `from` which arena the
--- work on a source begins with (the source itself, or none of it)
-abbrev pub RecSteady : {Y I : Type 0} → ℕ → (Y → I → Job) → (Arena → Node → (ℕ → Y) → Y) → Y → (Arena → Arena) → Type 0
-RecSteady {Y} {I} table job step y from =
+-- work on a source begins with (the source itself, or none of it). The source is sound under a table of `own` names, its own or the target's
+abbrev pub RecSteady : {Y I : Type 0} → ℕ → ℕ → (Y → I → Job) → (Arena → Node → (ℕ → Y) → Y) → Y → (Arena → Arena) → Type 0
+RecSteady {Y} {I} own table job step y from =
     ((x : Node) (s : Arena) → Ext (from s) (from (x ∷ s)))
-    → ((x : Node) (s : Arena) (f : ℕ → Y) → sound table (x ∷ s) ≡ true
+    → ((x : Node) (s : Arena) (f : ℕ → Y) → sound own (x ∷ s) ≡ true
     → ((c : ℕ) → c < length s → (i : I) → Steady table (from s) There (job (f c) i))
     → (i : I) → Steady table (from (x ∷ s)) There (job (step s x f) i))
-    → (s : Arena) → sound table s ≡ true → (n : ℕ) → n < length s → (i : I) → Steady table (from s) There (job (rec step y s n) i)
+    → (s : Arena) → sound own s ≡ true → (n : ℕ) → n < length s → (i : I) → Steady table (from s) There (job (rec step y s n) i)
 
 -- interning a node that may stand there is
 abbrev pub InternSteady : Type 0

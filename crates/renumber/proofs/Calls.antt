@@ -8,7 +8,7 @@ use lib.ListN.{length, take, replicate}
 use lib.Seq.{take-at, length-take-le}
 use lib.Dec.{eqb}
 use borrow.Author.Tests.{eqb-true, eq-eqb}
-use Rattle.types.specs.Out.{Out, ok}
+use Rattle.types.specs.Out.{ok}
 use Rattle.types.specs.Node.{var, tag, kind}
 use Rattle.types.specs.Kind.{disc}
 use Rattle.types.specs.Arena.{Arena, at, here}
@@ -24,12 +24,10 @@ use Rattle.node_store.specs.declared.added.Interned.{Interned}
 use Rattle.node_store.specs.declared.added.Interned.the-variants as interned
 use Rattle.walks.specs.Inner.Asked.{Says}
 use Rattle.node_reading.specs.Inner.{KindAt}
-use Rattle.recursion.specs.Jobs.{Job}
 use Rattle.recursion.specs.Inner.Work.{Leads, Ready, Does}
-use Rattle.recursion.specs.Inner.Work as work
-use Rattle.recursion.specs.Inner.Hosted.{LeadsOnce, done, stop, Works}
+use Rattle.recursion.specs.Inner.Hosted.{LeadsOnce, done, Works}
 use Rattle.recursion.proofs.Steady.{intern-steady}
-use Rattle.recursion.proofs.Leading.{reply-once}
+use Rattle.recursion.proofs.Leading.{leads-once, reply-once}
 use Rattle.recursion.proofs.Remembering.{cache-none}
 use Rattle.free_vars.specs.FreeVars.{free-type-vars, free-list}
 use Rattle.free_vars.specs.declared.VarList.{VarList}
@@ -41,11 +39,6 @@ use Rattle.renumber.specs.Renumber.{by-vars, normalize-vars, normalize}
 use Rattle.renumbering.specs.Inner.{Numbered, VarWords}
 use Rattle.renumbering.proofs.VarNodes.{var-well}
 use Rattle.renumbering.proofs.Working.{no-var}
-
--- a cache is gone with its call
-led : {table : ℕ} {a : Arena} {f : ℕ → Job} {count : ℕ} {w s entries : List ℕ} {r : Interned} {o : Out (ℕ × Arena)} → Leads table a f count w s entries r o → LeadsOnce table a w s r o
-led (work.done H E l C) = done H E l
-led (work.stop S) = stop S
 
 -- ---- normalize_vars
 module _ {w s : List ℕ} {c : Counters} {root : ℕ} (P : InRange w s c root) {array : List ℕ} {count : ℕ} (S : Says free-list w s c root (record { vars = array; count = count })) where
@@ -114,7 +107,7 @@ module _ {w s : List ℕ} {c : Counters} {root : ℕ} (P : InRange w s c root) {
         let vs = free-type-vars a root in
         let o = some-left vs a (λ z. f (count-is H ∙ z)) in
         subst (LeadsOnce table a w′ s′ r) (sym o)
-        (led (subst (λ (us : List ℕ). Leads table a (renumbered us (length w) (length s) a) (length a) w′ s′ entries r (renumbered us (length w) (length s) a root a)) (listed H)
+        (leads-once (subst (λ (us : List ℕ). Leads table a (renumbered us (length w) (length s) a) (length a) w′ s′ entries r (renumbered us (length w) (length s) a root a)) (listed H)
         (D .is table a a H (record { grown = here; few = subst (λ (us : List ℕ). length us ≤ 4096) (sym (listed H)) (few-listed H) }) (inside H) cache-none)));
   }
 

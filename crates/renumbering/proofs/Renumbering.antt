@@ -64,7 +64,7 @@ module _ (vars : List ℕ) (words starts : ℕ) where
 
     pub renumbered-steady : (u : Arena) → sound table u ≡ true → (n : ℕ) → n < length u → Steady table u There (renumbered vars words starts u n)
     unfolding renumbered
-    renumbered-steady u g n l = rec-steady table (λ (v : Job) (i : Unit {0}). v) (renumber-step vars words starts) (λ a. refuse 6) (λ (s : Arena). s) (λ x s. more x here) step-steady u g n l tt
+    renumbered-steady u g n l = rec-steady table table (λ (v : Job) (i : Unit {0}). v) (renumber-step vars words starts) (λ a. refuse 6) (λ (s : Arena). s) (λ x s. more x here) step-steady u g n l tt
 
 pub lawful : {vars : List ℕ} → Lawful (renumbered vars) (Numbered vars)
 lawful {vars} = record {

@@ -105,7 +105,7 @@ module _ {vars w s : List ℕ} {c : Counters} {n : ℕ} {entries : List ℕ} (P 
           }
 
 -- the answer is that of the node with the children that it has by then
-interns-as : {vars w s : List ℕ} {c : Counters} {n : ℕ} {items : List ℕ} {count : ℕ} {w′ s′ : List ℕ} {r : Interned} → Rebuilds w s c n items count w′ s′ r → InternsAs (Numbered vars) w s c n items count w′ s′ r
+interns-as : {vars w s : List ℕ} {c : Counters} {n : ℕ} {items : List ℕ} {count : ℕ} {w′ s′ : List ℕ} {r : Interned} → Rebuilds w s c n items count w′ s′ r → InternsAs (Numbered vars) (λ t. t) w s c n items count w′ s′ r
 interns-as {w = w} {s} {c} {n} {items} {count} R = record {
   is = λ table u a H N l. R .is table a H ∙ ap (λ (y : Node). reply-of w s c (intern (length w) (length s) (node (tag y) (take count items)) a)) (ext-at u a (N .grown) n l);
 }
@@ -113,7 +113,7 @@ interns-as {w = w} {s} {c} {n} {items} {count} R = record {
 -- ---- any other node
 module _ {vars w s : List ℕ} {c : Counters} {n : ℕ} {entries : List ℕ} (P : Ready (renumbered vars) (Numbered vars) w s c n entries) {x k : ℕ} (e : x ≡ n) (K : KindAt w s c x k) {r : Children} (L : AllChildren w s c n r)
     {w′ s′ items′ entries′ : List ℕ} {g : Run} (E : DoesEach (renumbered vars) (Numbered vars) w s c n (r .items) (r .count) entries w′ s′ items′ entries′ g) where
-  rebuilt : (k ≡ 3 → ⊥) → Rebuilt (renumbered vars) (Numbered vars) w s c n (r .items) (r .count)
+  rebuilt : (k ≡ 3 → ⊥) → Rebuilt (renumbered vars) (Numbered vars) (λ t. t) w s c n (r .items) (r .count)
   rebuilt f = record {
     kids = λ table u a H N l. L .is table a H .is ∙ ap children (ext-at u a (N .grown) n l);
     step = λ table u a H N l b.

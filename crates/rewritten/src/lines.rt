@@ -2,6 +2,7 @@
 use compact::Copied;
 use compact::compact;
 use equal::structurally_eq;
+use import::import_from_arena;
 use node_store::added::Interned;
 use questions::vars::Asked;
 use renumber::normalize_replacing_unknown;
@@ -164,4 +165,36 @@ pub fn compared(
         4094,
     );
     told(shape, b"structurally_eq of the node before", r);
+}
+
+// The type imported into another arena under the same names, whose counters come back.
+pub fn imported(
+    shape: &[u8],
+    call: &[u8],
+    words: &[u32],
+    starts: &[u32],
+    c: Counters,
+    root: u32,
+    target_words: &mut [u32],
+    target_starts: &mut [u32],
+    d: Counters,
+) -> Counters {
+    let table = [1, b'p', 1, b'q'];
+    label(shape, call);
+    let r = import_from_arena(
+        &table,
+        words,
+        starts,
+        c,
+        root,
+        &table,
+        target_words,
+        target_starts,
+        d,
+    );
+    interned(r);
+    let Interned::Node(_, after) = r else {
+        return d;
+    };
+    after
 }

@@ -1,4 +1,4 @@
-// The calls that renumber, sort, copy and compare, on types that are deep or have a node at very many places. It prints a line
+// The calls that renumber, sort, copy, compare and import, on types that are deep or have a node at very many places. It prints a line
 // a call. What it must print was made by the Rust (compare/reference/src/bin/rewritten.rs).
 mod lines;
 
@@ -6,6 +6,7 @@ use deep_types::Step;
 use deep_types::put_chain;
 use lines::compacted;
 use lines::compared;
+use lines::imported;
 use lines::normalized;
 use types::Counters;
 use types::arc_ty::Head;
@@ -39,11 +40,44 @@ fn pair(shape: &[u8], int: bool, step: Step) {
     compared(shape, &words, &starts, c, &other_words, &other_starts, d);
 }
 
+// A chain imported into an arena without nodes, and once more into what that left.
+fn import_twice(shape: &[u8], int: bool, step: Step) {
+    let mut words = [0u32; 16384];
+    let mut starts = [0u32; 4096];
+    let c = put_chain(&mut words, &mut starts, int, step);
+    let mut target_words = [0u32; 16384];
+    let mut target_starts = [0u32; 4096];
+    let none = Counters { nodes: 0, words: 0 };
+    let d = imported(
+        shape,
+        b"import_from_arena",
+        &words,
+        &starts,
+        c,
+        4095,
+        &mut target_words,
+        &mut target_starts,
+        none,
+    );
+    imported(
+        shape,
+        b"import_from_arena once more",
+        &words,
+        &starts,
+        c,
+        4095,
+        &mut target_words,
+        &mut target_starts,
+        d,
+    );
+}
+
 fn chain(shape: &[u8], int: bool, step: Step) {
     change(shape, int, step, 10);
     change(shape, int, step, 12);
     change(shape, int, step, 17);
     pair(shape, int, step);
+    import_twice(shape, int, step);
 }
 
 // Each node is both children of the next, so the variable has 2^4095 places.

@@ -187,7 +187,7 @@ module _ (words starts : ℕ) where
 
     pub normalize-steady : (u : Arena) → sound table u ≡ true → (n : ℕ) → n < length u → Steady table u There (normalize words starts u n)
     unfolding normalize
-    normalize-steady u g n l = rec-steady table (λ (v : Job) (i : Unit {0}). v) (set-ops-step words starts) (λ a. refuse 6) (λ (s : Arena). s) (λ x s. more x here) step-steady u g n l tt
+    normalize-steady u g n l = rec-steady table table (λ (v : Job) (i : Unit {0}). v) (set-ops-step words starts) (λ a. refuse 6) (λ (s : Arena). s) (λ x s. more x here) step-steady u g n l tt
 
     -- the list that the members of node n make
     pub flat-list : (u : Arena) → sound table u ≡ true → (n : ℕ) → n < length u → (k : Polarity) → tag (at u n) ≡ members k → Steady table u (Flat 1) (flatten-set-op k (normalize words starts u) [] (children (at u n)))

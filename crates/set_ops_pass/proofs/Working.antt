@@ -61,7 +61,7 @@ member-inside M e N B = let L = M .range .lent in omega (arith, M .inside, as-ma
 pub member-is : {w s : List ℕ} {c : Counters} {n i x : ℕ} → MemberThere w s c n i → x ≡ n → {ws b : List ℕ} → NodeAt w s c x ws → ChildWords ws b → {r : ℕ} → r ≡ child (getD b i 0) → MemberAt w s c n i r
 member-is {i = i} M e N B q = member-read (M .range) e N B i q
 
-interns-as : {w s : List ℕ} {c : Counters} {n : ℕ} {items : List ℕ} {count : ℕ} {w′ s′ : List ℕ} {r : Interned} → Rebuilds w s c n items count w′ s′ r → InternsAs Grown w s c n items count w′ s′ r
+interns-as : {w s : List ℕ} {c : Counters} {n : ℕ} {items : List ℕ} {count : ℕ} {w′ s′ : List ℕ} {r : Interned} → Rebuilds w s c n items count w′ s′ r → InternsAs Grown (λ t. t) w s c n items count w′ s′ r
 interns-as {w} {s} {c} {n} {items} {count} R = record {
   is = λ table u a H E l. R .is table a H ∙ ap (λ (y : Node). reply-of w s c (intern (length w) (length s) (node (tag y) (take count items)) a)) (ext-at u a E n l);
 }
@@ -92,7 +92,7 @@ module _ {w s : List ℕ} {c : Counters} {n : ℕ} {entries : List ℕ} (P : Rea
         let t = list-tag (tag (at (P .view) n)) (ap (λ (y : ℕ). eqb y 7 || eqb y 8) (sym p) ∙ q) in
         record { ready = P; side = t .0; tag-is = t .1; kind-is = p ∙ ap (λ (y : Tag). disc (kind y)) (t .1) }
 
-    other-rebuilt : (eqb k 7 || eqb k 8) ≡ false → {r : Children} → AllChildren w s c n r → Rebuilt normalize Grown w s c n (r .items) (r .count)
+    other-rebuilt : (eqb k 7 || eqb k 8) ≡ false → {r : Children} → AllChildren w s c n r → Rebuilt normalize Grown (λ t. t) w s c n (r .items) (r .count)
     other-rebuilt q L = record {
       kids = λ table u a H E l. L .is table a H .is ∙ ap children (ext-at u a E n l);
       step = λ table u a H E l b.

@@ -79,7 +79,7 @@ module _ (words starts table : ℕ) (few : starts ≤ 4096) where
 
   pub apply-steady : (s : Arena) → sound table s ≡ true → (n : ℕ) → n < length s → (R : ℕ → Bool) → Steady table s There (apply words starts s n R)
   unfolding apply
-  apply-steady = rec-steady table (λ (v : (ℕ → Bool) → Job) (R : ℕ → Bool). v R) (apply-step words starts) (λ R a. refuse 6) (λ (s : Arena). s) (λ x s. more x here) step-steady
+  apply-steady = rec-steady table table (λ (v : (ℕ → Bool) → Job) (R : ℕ → Bool). v R) (apply-step words starts) (λ R a. refuse 6) (λ (s : Arena). s) (λ x s. more x here) step-steady
 
 -- the law: a₀ is an earlier arena, a₁ what was left then, a the present one
 pub cache-law : CacheLaw

@@ -1,3 +1,4 @@
 pub mod Zeros
 pub mod Checks
 pub mod Verdicts
+pub mod Sides

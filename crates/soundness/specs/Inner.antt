@@ -1,3 +1,4 @@
 pub mod Sound
 pub mod Zero
 pub mod Reading
+pub mod Sides

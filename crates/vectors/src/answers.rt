@@ -4,6 +4,7 @@ use answer_writing::lines::Step;
 use answer_writing::lines::and;
 use answer_writing::lines::counters;
 use answer_writing::lines::done;
+use answer_writing::lines::interned;
 use answer_writing::lines::memory;
 use answer_writing::lines::ok;
 use answer_writing::lines::refused;
@@ -28,17 +29,6 @@ use simplify::simplify;
 use types::Counters;
 use types::arc_ty::wide;
 ghost use Prim.Native.Nat.{_<_};
-
-// What a call that stores nodes answered.
-fn interned(out: &mut Output, held: usize, r: Interned) -> usize {
-    match r {
-        Interned::Node(number, c) => {
-            let held = ok(out, held, wide(number));
-            counters(out, held, c)
-        }
-        Interned::Refused(number) => refused(out, held, number),
-    }
-}
 
 // What `simplify` answered.
 fn simplified(out: &mut Output, held: usize, r: Simplified) -> usize {

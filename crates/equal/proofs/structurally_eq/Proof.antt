@@ -1,5 +1,6 @@
 -- 1 and 2 of the left are the verdict's; what follows them is that of `equal_right`.
-use Rattle.equal.proofs.Replying.{side-known, left-refused, left-done}
+use Rattle.soundness.proofs.Sides.{side-known}
+use Rattle.equal.proofs.Replying.{left-refused, left-done}
 use borrow.Author.Needs.{needs}
 use Rattle.equal.proofs.structurally_eq.Statement.{statement}
 use Rattle.equal.proofs.structurally_eq.Tie as tie

@@ -1,4 +1,4 @@
--- What the functions that compare two nodes' own data answer. Of names they are lent a map (`Inner.Names`).
+-- What the functions that compare two nodes' own data answer. Of names they are lent a map (`Inner` of `name_matching`).
 use Prim.Native.Nat.{ℕ, _+_}
 use mathlib.Core.Path.{_≡_}
 use mathlib.Core.Bool.{Bool, true, false, _&&_, Bool·beq}
@@ -10,7 +10,7 @@ use Rattle.types.specs.Same.{same}
 use Rattle.types.specs.Node.{Node, tag, children, encode, formed, names, below}
 use Rattle.names.specs.Table.{Name}
 use Rattle.equal.specs.Equal.{label-of, label-dec}
-use Rattle.equal.specs.Inner.Names.{Matches}
+use Rattle.name_matching.specs.Inner.{Matches}
 
 -- have two field words the same mark, and names that are one by the map?
 unfoldable pub same-field : List ℕ → ℕ → ℕ → Bool

@@ -4,18 +4,18 @@ use mathlib.Core.Path.{_≡_}
 use mathlib.Core.Bool.{Bool, true, false}
 use mathlib.Core.List.{List}
 use mathlib.Core.Logic.{_⊎_}
-use mathlib.Core.Option.{some}
 use lib.ListN.{length, getD}
 use Rattle.types.specs.Out.{Out}
 use Rattle.types.specs.Node.{tag, children}
 use Rattle.types.specs.Arena.{Arena, at}
 use Rattle.types.specs.Fault.{children-in}
-use Rattle.types.specs.Memory.{Holds}
 use Rattle.types.specs.declared.Counters.{Counters}
-use Rattle.names.specs.Table.{Name, names-of}
+use Rattle.names.specs.Table.{Name}
 use Rattle.equal.specs.Equal.{label-of, tree, equal}
-use Rattle.equal.specs.Reply.{lent-to, equal-roots}
-use Rattle.equal.specs.Inner.Names.{Matches}
+use Rattle.soundness.specs.Lent.{lent-to}
+use Rattle.soundness.specs.Inner.Sides.{Side}
+use Rattle.equal.specs.Reply.{equal-roots}
+use Rattle.name_matching.specs.Inner.{Matches}
 
 -- p is the partner of node k: its number and one stands at k, where 0 is none
 abbrev pub Pair : List ℕ → ℕ → ℕ → Type 0
@@ -67,13 +67,6 @@ pub record GivesAll (cs ds ps qs : List ℕ) (r : Bool) : Type 0 where
   pub only : (j q : ℕ) → Pair qs j q → Pair ps j q ⊎ Beside cs ds j q
   pub given : r ≡ true → (j q : ℕ) → Beside cs ds j q → Pair qs j q
   pub clash : r ≡ false → Clash cs ds qs
-
--- a table, its names, and the arena that memory holds under them
-pub record Side (t w s : List ℕ) (c : Counters) : Type 0 where
-  pub names : List Name
-  pub is : names-of t ≡ some names
-  pub view : Arena
-  pub holds : Holds (length names) w s c view
 
 -- nodes k and p have the same label and as many children, and children beside one another are partners
 pub record Matched (ns : List Name) (a : Arena) (ms : List Name) (b : Arena) (ps : List ℕ) (k p : ℕ) : Type 0 where

@@ -1,0 +1,10 @@
+pub mod Renaming
+pub mod Caching
+pub mod Lacks
+pub mod Words
+pub mod FieldWords
+pub mod Searching
+pub mod InternImported
+pub mod Working
+pub mod Tables
+pub mod Evaluated

@@ -1,0 +1,4 @@
+pub mod Import
+pub mod Worked
+pub mod Theorems
+pub mod Inner
