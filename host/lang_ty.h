@@ -48,7 +48,8 @@ enum lang_ty_answer {
     LANG_TY_TOO_MANY_MEMBERS = 8,
     LANG_TY_TOO_LONG = 9,
     LANG_TY_BAD_SHEET = 10,
-    LANG_TY_BAD_OLD_SHEET = 11
+    LANG_TY_BAD_OLD_SHEET = 11,
+    LANG_TY_LACKING_NAME = 12
 };
 
 /* The kinds of nodes, under the Rust's names; `never` is the bottom and `any` the top. */
@@ -239,6 +240,17 @@ uint32_t lang_ty_compact(
     uint32_t *target_words, size_t target_words_len, uint32_t *target_starts, size_t target_starts_len,
     size_t *target_nodes, size_t *target_used, uint32_t *root_after);
 
+/* The type interned in a target with a table of its own, names found there by their text; all that the target had stays. 12: a
+ * name of the type isn't in the target's table. Both tables may be the same bytes. */
+uint32_t lang_ty_import_from_arena(
+    const uint8_t *table, size_t table_len,
+    const uint32_t *words, size_t words_len, const uint32_t *starts, size_t starts_len,
+    size_t nodes, size_t used,
+    uint32_t root,
+    const uint8_t *target_table, size_t target_table_len,
+    uint32_t *target_words, size_t target_words_len, uint32_t *target_starts, size_t target_starts_len,
+    size_t *target_nodes, size_t *target_used, uint32_t *root_after);
+
 /* Calls that need no arena. Only the last is ever refused. */
 
 /* How a variable is printed, zeros after it. */
@@ -340,6 +352,7 @@ static inline const char *lang_ty_sentence(uint32_t answer)
         "refused 9, caused by the size of the work: the text or the sheet exceeds the lent bytes, or 65,536 bytes",
         "refused 10, caused by the sender of the sheet: it ends early, goes on, is too long or repeats a node",
         "refused 11, caused by the sender of the old sheet: the rules of old sheets refuse it before simplification",
+        "refused 12, caused by the author of the call: a name of the type isn't in the target's table",
     };
     return answer < sizeof sentences / sizeof *sentences ? sentences[answer] : "no answer of this library";
 }

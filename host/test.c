@@ -131,7 +131,7 @@ struct results {
 };
 
 /* Which results a call writes. */
-enum { NUMBER = 1, PASSES = 2, VARS = 4, TEXT = 8, TARGET = 16, SHEET = 32 };
+enum { NUMBER = 1, PASSES = 2, VARS = 4, TEXT = 8, TARGET = 16, SHEET = 32, IMPORT = 64 };
 
 struct row;
 
@@ -151,10 +151,10 @@ struct row {
 
     struct list node;          /* of intern */
     uint32_t other;            /* of compare, and the right root of structurally_eq */
-    const char *right_table;   /* of structurally_eq */
+    const char *right_table;   /* of structurally_eq, and the target's before import_from_arena */
     struct list right;
     size_t text_lent;          /* of display, display_nix and write_sheet */
-    size_t target_words, target_starts; /* of compact: how many are lent */
+    size_t target_words, target_starts; /* of compact and import_from_arena: how many are lent */
 
     uint32_t answer;
     uint32_t number, passes;
@@ -244,16 +244,25 @@ static uint32_t make_compact(const struct row *row, struct host *h, struct resul
 }
 static const struct call compact = {make_compact, NUMBER | TARGET};
 
-/* The row's nodes, and zeros past them, in all that is lent of the target. */
-static void expect_target(const struct row *row, struct results *r)
+/* These nodes, and zeros past them, in all that is lent of the target. */
+static void lay_target(const struct row *row, struct list nodes, struct results *r)
 {
-    struct host made = lend("", row->target, row->target_words, row->target_starts);
+    struct host made = lend("", nodes, row->target_words, row->target_starts);
     memcpy(r->target_words, made.words, row->target_words * sizeof *made.words);
     memcpy(r->target_starts, made.starts, row->target_starts * sizeof *made.starts);
     r->target_nodes = made.nodes;
     r->target_used = made.used;
     give_back(&made);
 }
+
+static uint32_t make_import_from_arena(const struct row *row, struct host *h, struct results *r)
+{
+    const char *table = row->right_table ? row->right_table : "";
+    lay_target(row, row->right, r);
+    return TOLD(lang_ty_import_from_arena, READ(h), row->root, (const uint8_t *)table, strlen(table), r->target_words,
+                row->target_words, r->target_starts, row->target_starts, &r->target_nodes, &r->target_used, &r->number);
+}
+static const struct call import_from_arena = {make_import_from_arena, NUMBER | IMPORT};
 
 /* The results that the row says, over what stood there. */
 static void expect(const struct row *row, struct results *r)
@@ -280,7 +289,9 @@ static void expect(const struct row *row, struct results *r)
     if (row->answer == LANG_TY_TOO_LONG && row->call->writes & TEXT)
         memset(r->text, 0, row->text_lent);
     if (row->call->writes & TARGET && (row->answer == LANG_TY_OK || row->answer == LANG_TY_NO_ROOM))
-        expect_target(row, r);
+        lay_target(row, row->target, r);
+    if (row->call->writes & IMPORT)
+        lay_target(row, row->answer == LANG_TY_OK ? row->target : row->right, r);
 }
 
 static void check_results(int line, const struct results *got, const struct results *want)
@@ -394,13 +405,13 @@ static void check_words(void)
 /* Each sentence begins with its own number; tests/host/header.rs holds the rest against the crate's. */
 static void check_sentences(void)
 {
-    for (uint32_t answer = LANG_TY_BAD_TABLE; answer <= LANG_TY_BAD_OLD_SHEET; answer++) {
+    for (uint32_t answer = LANG_TY_BAD_TABLE; answer <= LANG_TY_LACKING_NAME; answer++) {
         char begins[32];
         int length = snprintf(begins, sizeof begins, "refused %" PRIu32 ", caused by ", answer);
         check(__LINE__, begins, strncmp(lang_ty_sentence(answer), begins, (size_t)length), 0);
     }
     check(__LINE__, "the sentence of 0", strcmp(lang_ty_sentence(LANG_TY_OK), "not refused"), 0);
-    check(__LINE__, "the sentence of 12", strcmp(lang_ty_sentence(12), "no answer of this library"), 0);
+    check(__LINE__, "the sentence of 13", strcmp(lang_ty_sentence(13), "no answer of this library"), 0);
 }
 
 #define RUN(what, ...) run(&(const struct row){.line = __LINE__, .call = &what, __VA_ARGS__})
@@ -508,6 +519,41 @@ static void check_copies(void)
     RUN(compact, .given = WITH_A_REST, .root = 4, .target_starts = LANG_TY_STARTS + 1, .answer = LANG_TY_BAD_ARENA);
 }
 
+/* { p: int, q?: Q } is node 3, where Q is q as a name for a. Node 4 is p as a name for a. */
+#define P_INT_Q_A WORDS(VAR(0), INT, NAMED(1, 0), SET(2), FIELD(0, 1), lang_ty_field(1, 2, true), NAMED(0, 0))
+/* A target with other numbers for both names, before and after. */
+#define A_P_AND_Q "\1a\1p\1q"
+#define BOOL_AND_A WORDS(BOOL, VAR(0))
+#define IMPORTED WORDS(BOOL, VAR(0), INT, NAMED(2, 1), SET(2), FIELD(1, 2), lang_ty_field(2, 3, true))
+#define IMPORTS(of, into, ...) RUN(import_from_arena, .table = P_AND_Q, .given = P_INT_Q_A, .root = of, .right_table = into, __VA_ARGS__)
+
+static void check_imports(void)
+{
+    static const char same[] = P_AND_Q;
+    IMPORTS(3, A_P_AND_Q, .right = BOOL_AND_A, .target_words = 15, .target_starts = 8, .number = 4, .target = IMPORTED);
+    IMPORTS(3, A_P_AND_Q, .right = BOOL_AND_A, .target_words = 11, .target_starts = 5, .number = 4, .target = IMPORTED);
+    IMPORTS(3, A_P_AND_Q, .right = BOOL_AND_A, .target_words = 10, .target_starts = 5, .answer = LANG_TY_NO_ROOM);
+    IMPORTS(3, A_P_AND_Q, .right = BOOL_AND_A, .target_words = 11, .target_starts = 4, .answer = LANG_TY_NO_ROOM);
+    IMPORTS(3, A_P_AND_Q, .right = BOOL_AND_A, .target_words = 4, .target_starts = 2, .answer = LANG_TY_NO_ROOM);
+    /* All of it is there, in a target that is full. */
+    IMPORTS(3, A_P_AND_Q, .right = IMPORTED, .target_words = 11, .target_starts = 5, .number = 4, .target = IMPORTED);
+    RUN(import_from_arena, .table = same, .given = P_INT_Q_A, .root = 2, .right_table = same, .target_words = 5, .target_starts = 3,
+        .number = 1, .target = WORDS(VAR(0), NAMED(1, 0)));
+    /* Without p the target takes node 2, and node 3 not, whether there is room or not. */
+    IMPORTS(2, "\1q", .target_words = 4, .target_starts = 2, .number = 1, .target = WORDS(VAR(0), NAMED(0, 0)));
+    IMPORTS(3, "\1q", .target_words = 15, .target_starts = 8, .answer = LANG_TY_LACKING_NAME);
+    IMPORTS(3, "\1q", .answer = LANG_TY_LACKING_NAME);
+    IMPORTS(3, "\1p", .right = BOOL_AND_A, .target_words = 15, .target_starts = 8, .answer = LANG_TY_LACKING_NAME);
+    /* The target's 1, its 2, then 6, before 12. */
+    IMPORTS(5, "\2p", .right = TWICE, .answer = LANG_TY_BAD_TABLE);
+    IMPORTS(5, "", .right = TWICE, .target_words = 4, .target_starts = 2, .answer = LANG_TY_BAD_ARENA);
+    IMPORTS(5, "", .target_words = LANG_TY_WORDS + 1, .answer = LANG_TY_BAD_ARENA);
+    IMPORTS(5, "", .target_starts = LANG_TY_STARTS + 1, .answer = LANG_TY_BAD_ARENA);
+    IMPORTS(5, "", .answer = LANG_TY_BAD_ROOT);
+    /* The source's 2 before the target's 1. */
+    RUN(import_from_arena, .given = TWICE, .right_table = "\2p", .answer = LANG_TY_BAD_ARENA);
+}
+
 /* Nodes 0 to 64 are int, [int], [[int]], .., node 65 the union of the first 64, node 66 that union and node 64, node 67 that
  * union and node 63. */
 static uint32_t wide[130 + 65 + 3 + 3];
@@ -594,7 +640,7 @@ static void check_normalize(void)
 static const struct call *const all[] = {
     &compare, &count_reachable, &unwrap_named, &has_type_vars, &needs_var_normalization, &contains_bare_tyvar,
     &has_shared_tyvar_across_lambda_params, &free_type_vars, &structurally_eq, &display, &display_nix, &write_sheet,
-    &intern, &simplify, &normalize_vars, &normalize_replacing_unknown, &normalize_set_ops, &compact,
+    &intern, &simplify, &normalize_vars, &normalize_replacing_unknown, &normalize_set_ops, &compact, &import_from_arena,
 };
 
 /* What is refused alike by every call that is lent an arena, in the order of the numbers. Node 9 isn't there. */
@@ -870,6 +916,7 @@ int main(void)
     check_primitives();
     check_written_sheets();
     check_copies();
+    check_imports();
     check_nodes();
     check_simplify();
     check_normalize();

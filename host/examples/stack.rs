@@ -9,7 +9,8 @@ use std::process::{Command, Stdio};
 use std::thread;
 
 use coombtray::{
-    convert_sheet, sheet_line, AttrSetTy, Field, Names, OutputTy, PrimitiveTy, TyRef, TypeArena,
+    convert_sheet, import_from_arena, sheet_line, AttrSetTy, Field, Names, OutputTy, PrimitiveTy,
+    TyRef, TypeArena,
 };
 
 /// Six nodes are left free, so that a call can rebuild some nodes at the bottom before there is no more room.
@@ -63,7 +64,7 @@ const CHAINS: [(&str, Step); 10] = [
 ];
 
 /// A refusal by 7 counts as well: it comes after the recursion is at its deepest.
-const OPERATIONS: [(&str, Operation); 22] = [
+const OPERATIONS: [(&str, Operation); 23] = [
     ("find", |a, _| a.names().find(NAME).is_ok()),
     ("intern", |a, r| a.intern(OutputTy::List(r)).is_ok()),
     ("get", |a, r| a.get(r).is_ok()),
@@ -91,6 +92,10 @@ const OPERATIONS: [(&str, Operation); 22] = [
     }),
     ("normalize_set_ops", |a, r| a.normalize_set_ops(r).is_ok()),
     ("compact", |a, r| a.compact(r).is_ok()),
+    ("import_from_arena", |a, r| {
+        let mut target = TypeArena::new(a.names().clone());
+        import_from_arena(&mut target, a, r).is_ok()
+    }),
     ("write_sheet", |a, r| a.write_sheet(r).is_ok()),
     ("sheet_line", |a, r| {
         sheet_line(&a.write_sheet(r).expect("it fits")).is_ok()

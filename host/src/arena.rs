@@ -290,6 +290,32 @@ impl TypeArena {
     }
 }
 
+/// Stores a type of the source in the target, which keeps all that it had, under the target's own names: each is found there
+/// by its text. A node that the target has already is found, in a full target too. 6: the source has no such node; 12: a name of
+/// the type isn't in the target's table; 7.
+///
+/// ```
+/// use coombtray::{import_from_arena, Names, OutputTy, TypeArena};
+///
+/// let mut source = TypeArena::new(Names::new(["roll"])?);
+/// let var = source.intern(OutputTy::TyVar(0))?;
+/// let roll = source.intern(OutputTy::Named("roll".into(), var))?;
+/// let mut target = TypeArena::new(Names::new(["pitch"])?);
+/// assert_eq!(import_from_arena(&mut target, &source, roll).unwrap_err().number(), 12);
+/// target.add_names(["roll"])?;
+/// let imported = import_from_arena(&mut target, &source, roll)?;
+/// assert_eq!(target.structurally_eq(imported, &source, roll), Ok(true));
+/// # Ok::<(), coombtray::Refusal>(())
+/// ```
+pub fn import_from_arena(
+    target: &mut TypeArena,
+    source: &TypeArena,
+    ty: TyRef,
+) -> Result<TyRef, Refusal> {
+    let root = target.memory.import(&source.memory, ty.into_raw());
+    root.map(TyRef::from_raw)
+}
+
 impl fmt::Debug for TypeArena {
     fn fmt(&self, f: &mut fmt::Formatter<'_>) -> fmt::Result {
         write!(f, "TypeArena({} nodes)", self.len())

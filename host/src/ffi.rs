@@ -305,6 +305,27 @@ extern "C" {
         root_after: *mut u32,
     ) -> u32;
 
+    pub fn lang_ty_import_from_arena(
+        table: *const u8,
+        table_len: usize,
+        words: *const u32,
+        words_len: usize,
+        starts: *const u32,
+        starts_len: usize,
+        nodes: usize,
+        used: usize,
+        root: u32,
+        target_table: *const u8,
+        target_table_len: usize,
+        target_words: *mut u32,
+        target_words_len: usize,
+        target_starts: *mut u32,
+        target_starts_len: usize,
+        target_nodes: *mut usize,
+        target_used: *mut usize,
+        root_after: *mut u32,
+    ) -> u32;
+
     pub fn lang_ty_tyvar_name(index: u32, text: *mut [u8; TYVAR_NAME], len: *mut usize) -> u32;
 
     pub fn lang_ty_sheet_line(

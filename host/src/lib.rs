@@ -32,7 +32,7 @@ mod texts;
 mod types;
 mod words;
 
-pub use arena::{Simplified, TypeArena};
+pub use arena::{import_from_arena, Simplified, TypeArena};
 pub use names::Names;
 pub use refusal::Refusal;
 pub use stack::{on_large_stack, STACK};

@@ -267,6 +267,44 @@ impl Memory {
         Refusal::judge(answer).map(|()| root_after)
     }
 
+    /// Interns the type of a source's root here, where names are sought by their text. There is room for all of the source, and
+    /// an import adds no more: so one try is enough, which matters since each judges both arenas.
+    pub fn import(&mut self, source: &Memory, root: u32) -> Reply<u32> {
+        self.lend((self.used + source.used, self.nodes + source.nodes));
+        let reply = self.intern_all(source, root);
+        self.fit();
+        reply
+    }
+
+    fn intern_all(&mut self, source: &Memory, root: u32) -> Reply<u32> {
+        let (table, target_table) = (source.names.table(), self.names.table());
+        let mut root_after = 0;
+        // SAFETY: see the head of this file.
+        let answer = unsafe {
+            ffi::lang_ty_import_from_arena(
+                table.as_ptr(),
+                table.len(),
+                source.words.as_ptr(),
+                source.words.len(),
+                source.starts.as_ptr(),
+                source.starts.len(),
+                source.nodes,
+                source.used,
+                root,
+                target_table.as_ptr(),
+                target_table.len(),
+                self.words.as_mut_ptr(),
+                self.words.len(),
+                self.starts.as_mut_ptr(),
+                self.starts.len(),
+                &mut self.nodes,
+                &mut self.used,
+                &mut root_after,
+            )
+        };
+        Refusal::judge(answer).map(|()| root_after)
+    }
+
     pub fn ask(&self, question: Question, root: u32) -> Reply<u32> {
         let call = match question {
             Question::CountReachable => ffi::lang_ty_count_reachable,

@@ -1,8 +1,8 @@
 use std::error::Error;
 use std::fmt;
 
-/// A call that was refused: document 01's number, 1 to 10, or document 02's, 11. It displays as the number and a sentence that
-/// says who caused it.
+/// A call that was refused: document 01's number, 1 to 10, or document 02's, 11 or 12. It displays as the number and a sentence
+/// that says who caused it.
 #[derive(Debug, Clone, Copy, PartialEq, Eq)]
 pub struct Refusal {
     number: u32,
@@ -49,7 +49,8 @@ impl fmt::Display for Refusal {
             9 => "the size of the work: the text or the sheet exceeds the lent bytes, or 65,536 bytes",
             10 => "the sender of the sheet: it ends early, goes on, is too long or repeats a node",
             11 => "the sender of the old sheet: the rules of old sheets refuse it before simplification",
-            _ => unreachable!("the library answers 0 to 11"),
+            12 => "the author of the call: a name of the type isn't in the target's table",
+            _ => unreachable!("the library answers 0 to 12"),
         };
         write!(f, "refused {}, caused by {caused}", self.number)
     }

@@ -3,7 +3,9 @@
 use std::panic;
 use std::process::{Command, Stdio};
 
-use coombtray::{on_large_stack, AttrSetTy, Names, OutputTy, PrimitiveTy, TyRef, TypeArena};
+use coombtray::{
+    import_from_arena, on_large_stack, AttrSetTy, Names, OutputTy, PrimitiveTy, TyRef, TypeArena,
+};
 
 type Step = fn(TyRef) -> OutputTy;
 
@@ -60,6 +62,11 @@ fn every_operation() {
             assert!(t.count_reachable(root).unwrap() >= NODES as u32 - 1);
             let (copy, copied) = t.compact(root).unwrap();
             assert_eq!(t.structurally_eq(root, &copy, copied), Ok(true));
+            let mut target = TypeArena::new(Names::new(["o", "p"]).unwrap());
+            let imported = import_from_arena(&mut target, &t, root).unwrap();
+            assert_eq!(t.structurally_eq(root, &target, imported), Ok(true));
+            assert_eq!(import_from_arena(&mut t, &target, imported), Ok(root));
+            assert_eq!(t.len(), NODES, "it was there");
             assert_eq!(t.normalize_vars(root), Ok(root));
             assert_eq!(t.normalize_replacing_unknown(root), Ok(root));
             // There is room for no node, but the recursion comes first.

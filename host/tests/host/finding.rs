@@ -164,7 +164,7 @@ fn a_full_table() {
 }
 
 /// A name of an arena that has been used, by a node of its own.
-fn use_name(arena: &mut TypeArena, name: &str) -> Result<OutputTy, Refusal> {
+pub fn use_name(arena: &mut TypeArena, name: &str) -> Result<OutputTy, Refusal> {
     let inner = var(arena, 0);
     let node = arena.intern(OutputTy::Named(name.into(), inner))?;
     arena.get(node)

@@ -3,7 +3,10 @@
 
 use std::collections::HashSet;
 
-use coombtray::{ffi, AttrSetTy, Field, Names, OutputTy, PrimitiveTy, Refusal, TyRef, TypeArena};
+use coombtray::{
+    ffi, import_from_arena, AttrSetTy, Field, Names, OutputTy, PrimitiveTy, Refusal, TyRef,
+    TypeArena,
+};
 
 use crate::build::*;
 use crate::random::Random;
@@ -134,6 +137,33 @@ impl Whole {
                 target.starts.len(),
                 &mut target.nodes,
                 &mut target.used,
+                &mut after,
+            )
+        };
+        (answer, [after, 0])
+    }
+
+    fn import(&mut self, source: &Whole, root: u32) -> (u32, [u32; 2]) {
+        let mut after = 0;
+        let answer = unsafe {
+            ffi::lang_ty_import_from_arena(
+                TABLE.as_ptr(),
+                TABLE.len(),
+                source.words.as_ptr(),
+                source.words.len(),
+                source.starts.as_ptr(),
+                source.starts.len(),
+                source.nodes,
+                source.used,
+                root,
+                TABLE.as_ptr(),
+                TABLE.len(),
+                self.words.as_mut_ptr(),
+                self.words.len(),
+                self.starts.as_mut_ptr(),
+                self.starts.len(),
+                &mut self.nodes,
+                &mut self.used,
                 &mut after,
             )
         };
@@ -290,6 +320,14 @@ impl Pair {
                 (said(grown.normalize_set_ops(ty), of), raw)
             }
             6 => return self.copy(root),
+            7 | 8 => {
+                let nodes = [5, 60, 300][random.below(3) as usize];
+                let source = Pair::laid(random, nodes);
+                let root = random.below(nodes as u32 + 1);
+                let ours = import_from_arena(grown, &source.grown, TyRef::from_raw(root));
+                source.alike();
+                (said(ours, of), whole.import(&source.whole, root))
+            }
             _ => {
                 let words = words(random, grown.len() as u32);
                 (said(grown.intern(node(&words)), of), whole.intern(&words))
@@ -512,6 +550,44 @@ fn the_target_of_compact_is_lent_what_it_needs() {
     let mut exact = TypeArena::with_capacity(names(), 400, 200).unwrap();
     assert_eq!(large.compact_into(large_root, &mut exact), Ok(large_root));
     assert!(exact == large);
+}
+
+/// Imports a type into an arena that may grow to a limit; what it is lent afterwards, or the refusal.
+fn lent_after(
+    limit: (usize, usize),
+    source: &TypeArena,
+    root: TyRef,
+) -> Result<(usize, usize), u32> {
+    let mut target = TypeArena::with_capacity(names(), limit.0, limit.1).unwrap();
+    var(&mut target, 0);
+    let before = target.clone();
+    let imported = import_from_arena(&mut target, source, root);
+    assert!(imported.is_ok() || untouched(&target, &before));
+    imported.map_err(Refusal::number)?;
+    assert_eq!(target.len(), source.len() + 1, "the variable is another");
+    Ok(target.lent())
+}
+
+#[test]
+fn the_target_of_an_import_is_lent_what_it_needs() {
+    let (large, root) = chain(FULL, 200);
+    let (small, small_root) = chain(FULL, 3);
+    assert_eq!(lent_after(FULL, &small, small_root), Ok((256, 64)));
+    assert_eq!(lent_after(FULL, &large, root), Ok((2_048, 512)));
+    // 201 nodes of 402 words: that is the limit, or one over it.
+    assert_eq!(lent_after((402, 201), &large, root), Ok((402, 201)));
+    assert_eq!(lent_after((401, 201), &large, root), Err(7));
+    assert_eq!(lent_after((402, 200), &large, root), Err(7));
+    // A small type of a large arena, into a target that isn't far from its limit.
+    let mut target = chain((406, 203), 200).0;
+    let (mut source, _) = chain(FULL, 1_000);
+    let a = var(&mut source, 0);
+    let root = list(&mut source, a);
+    assert_eq!(
+        import_from_arena(&mut target, &source, root),
+        Ok(TyRef::from_raw(201))
+    );
+    assert_eq!((target.len(), target.lent()), (202, (406, 203)));
 }
 
 #[test]

@@ -142,7 +142,7 @@ fn in_source() -> Declared {
 #[test]
 fn the_same_everywhere() {
     let source = in_source();
-    assert_eq!(source.len(), 25);
+    assert_eq!(source.len(), 26);
     assert_eq!(in_header(&read("lang_ty.h")), source);
     assert_eq!(in_ffi(&read("src/ffi.rs")), source);
 }

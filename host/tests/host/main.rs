@@ -7,6 +7,8 @@ mod deep;
 mod finding;
 mod growth;
 mod header;
+mod importing;
+mod importing_by_hand;
 mod misuse;
 mod names;
 mod random;

@@ -1,7 +1,9 @@
 //! Safe code that asks for anything: nodes with children and names that aren't there, roots that aren't there, arenas that
 //! are too small. 1, 2 and 5 never come, and a refusal changes nothing.
 
-use coombtray::{AttrSetTy, Field, Names, OutputTy, PrimitiveTy, Refusal, TyRef, TypeArena};
+use coombtray::{
+    import_from_arena, AttrSetTy, Field, Names, OutputTy, PrimitiveTy, Refusal, TyRef, TypeArena,
+};
 
 use crate::build::untouched;
 use crate::random::Random;
@@ -61,6 +63,20 @@ impl Random {
         }
     }
 
+    /// Imports from an arena of thirty nodes at most, which uses a name that the target hasn't.
+    fn import(&mut self, t: &mut TypeArena) -> Result<TyRef, Refusal> {
+        let names = Names::new(["a", "p", "q", "not there"]);
+        let mut source = TypeArena::new(names.unwrap());
+        for _ in 0..30 {
+            // Some are refused, and then there are fewer.
+            let _ = source.intern(self.node(&source));
+        }
+        let (ty, before) = (self.ty(&source), source.clone());
+        let imported = import_from_arena(t, &source, ty);
+        assert!(untouched(&source, &before));
+        imported
+    }
+
     /// A call, or none; whether it was refused.
     fn call(&mut self, t: &mut TypeArena) -> Result<(), Refusal> {
         let (ty, other) = (self.ty(t), self.ty(t));
@@ -78,6 +94,7 @@ impl Random {
             10 => t.count_reachable(ty).map(|_| ()),
             11 => t.add_names(["a", "z"]),
             12 => t.display_nix(ty).map(|_| ()),
+            13..=15 => self.import(t).map(|_| ()),
             _ => t.intern(self.node(t)).map(|_| ()),
         }
     }
@@ -103,9 +120,9 @@ fn refused(seed: u64) -> Vec<u32> {
 #[test]
 fn no_one_no_two_no_five() {
     let met: Vec<u32> = (1..=500).flat_map(refused).collect();
-    for number in 1..=11 {
+    for number in 1..=12 {
         let often = met.iter().filter(|&&one| one == number).count();
-        let can_be = [3, 4, 6, 7].contains(&number);
+        let can_be = [3, 4, 6, 7, 12].contains(&number);
         let may_be = can_be || [8, 9].contains(&number);
         assert!(often == 0 || may_be, "{number} came {often} times");
         assert!(often > 100 || !can_be, "{number} came {often} times");

@@ -236,6 +236,32 @@ impl Lent {
         }
     }
 
+    fn import(&mut self, target: &mut Lent) -> u32 {
+        let (table, words, starts) = (&self.table, &self.words, &self.starts);
+        unsafe {
+            ffi::lang_ty_import_from_arena(
+                table.as_ptr(),
+                table.len(),
+                words.as_ptr(),
+                words.len(),
+                starts.as_ptr(),
+                starts.len(),
+                self.nodes,
+                self.used,
+                1,
+                target.table.as_ptr(),
+                target.table.len(),
+                target.words.as_mut_ptr(),
+                target.words.len(),
+                target.starts.as_mut_ptr(),
+                target.starts.len(),
+                &mut target.nodes,
+                &mut target.used,
+                &mut self.told[0],
+            )
+        }
+    }
+
     fn structurally_eq(&mut self, other: &Lent) -> u32 {
         let (table, words, starts) = (&self.table, &self.words, &self.starts);
         unsafe {
@@ -267,7 +293,7 @@ impl Lent {
 type Call = fn(&mut Lent) -> u32;
 
 /// Every call that is lent an arena.
-const CALLS: [Call; 18] = [
+const CALLS: [Call; 20] = [
     |l| l.read(ffi::lang_ty_count_reachable),
     |l| l.read(ffi::lang_ty_unwrap_named),
     |l| l.read(ffi::lang_ty_has_type_vars),
@@ -286,6 +312,8 @@ const CALLS: [Call; 18] = [
     Lent::simplify,
     |l| l.compact(&mut sound()),
     |l| l.structurally_eq(&sound()),
+    |l| l.import(&mut sound()),
+    |l| sound().import(l),
 ];
 
 /// Every call refuses this memory by the number, and leaves all of it and the results as they were.
@@ -494,6 +522,11 @@ fn which_number_comes_first() {
     assert_eq!(without_root().compact(&mut large), 2, "before 6");
     assert_eq!(bad_table.compact(&mut large), 1);
     assert_eq!(without_root().compact(&mut sound()), 6);
+    assert_eq!(unsound.import(&mut bad_table), 2, "the source first");
+    assert_eq!(bad_table.import(&mut unsound), 1);
+    assert_eq!(without_root().import(&mut bad_table), 1, "before 6");
+    assert_eq!(without_root().import(&mut large), 2, "before 6");
+    assert_eq!(without_root().import(&mut sound()), 6);
     unsound.words[0] = 0;
     assert_eq!(unsound.intern(&[]), 2, "before 3");
 }

@@ -2,7 +2,8 @@
 //! map.
 
 use coombtray::{
-    convert_sheet, sheet_line, AttrSetTy, Names, OutputTy, PrimitiveTy, Refusal, TyRef, TypeArena,
+    convert_sheet, import_from_arena, sheet_line, AttrSetTy, Names, OutputTy, PrimitiveTy, Refusal,
+    TyRef, TypeArena,
 };
 
 use crate::build::*;
@@ -104,6 +105,7 @@ fn six() {
             assert_eq!(number(t.normalize_replacing_unknown(root)), 6);
             assert_eq!(number(t.normalize_set_ops(root)), 6);
             assert_eq!(number(t.compact(root)), 6);
+            assert_eq!(number(import_from_arena(&mut t, &before, root)), 6);
             assert_eq!(number(t.count_reachable(root)), 6);
             assert_eq!(number(t.unwrap_named(root)), 6);
             assert_eq!(number(t.has_type_vars(root)), 6);
@@ -156,6 +158,9 @@ fn seven() {
     assert!(untouched(&t, &before));
     let mut none = TypeArena::with_capacity(Names::default(), 0, 0).unwrap();
     assert_eq!(interned(&mut none, OutputTy::Top), 7);
+    let empty = none.clone();
+    assert_eq!(number(import_from_arena(&mut none, &t, root)), 7);
+    assert!(untouched(&none, &empty));
     let nodes = (0..4_097).map(OutputTy::TyVar);
     assert_eq!(number(TypeArena::from_nodes(Names::default(), nodes)), 7);
 }
@@ -390,8 +395,22 @@ fn sheets_of_large_types() {
     assert_eq!(number(sheet_line(&sheet(&t, ty.into_raw()))), 9);
 }
 
-/// A refusal by each number, 1 to 11.
-pub fn each() -> [Refusal; 11] {
+#[test]
+fn twelve() {
+    let mut t = named(&["p", "q"]);
+    let a = var(&mut t, 0);
+    let inner = put(&mut t, OutputTy::Named("q".into(), a));
+    let root = list(&mut t, inner);
+    let mut target = named(&["p"]);
+    var(&mut target, 0);
+    let before = target.clone();
+    assert_eq!(number(import_from_arena(&mut target, &t, root)), 12);
+    assert!(untouched(&target, &before));
+    assert_eq!(import_from_arena(&mut target, &t, a), Ok(at(0)));
+}
+
+/// A refusal by each number, 1 to 12.
+pub fn each() -> [Refusal; 12] {
     let mut t = named(&["p", "q"]);
     let vars: Vec<TyRef> = (0..65).map(|index| var(&mut t, index)).collect();
     let members = [union(&mut t, &vars[..64]), vars[64]];
@@ -415,12 +434,13 @@ pub fn each() -> [Refusal; 11] {
         t.display_into(root, &mut []).unwrap_err(),
         sheet_line(&[]).unwrap_err(),
         convert_sheet(&mut []).unwrap_err(),
+        import_from_arena(&mut empty(), &t, root).unwrap_err(),
     ]
 }
 
 #[test]
 fn numbers() {
-    assert!(each().map(Refusal::number).into_iter().eq(1..=11));
+    assert!(each().map(Refusal::number).into_iter().eq(1..=12));
     let text = "refused 1, caused by the host that lends memory: the name table breaks a rule";
     assert_eq!(each()[0].to_string(), text);
 }

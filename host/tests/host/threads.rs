@@ -2,7 +2,7 @@
 
 use std::thread;
 
-use coombtray::{Names, OutputTy, TypeArena};
+use coombtray::{import_from_arena, Names, OutputTy, TypeArena};
 
 use crate::build::*;
 
@@ -47,6 +47,24 @@ fn one_arena_read_by_many() {
             scope.spawn(|| {
                 for _ in 0..1_000 {
                     assert_eq!(t.display(root), Ok("[a]".into()));
+                }
+            });
+        }
+    });
+}
+
+#[test]
+fn one_source_imported_by_many() {
+    let mut source = named(&["p", "q"]);
+    let a = var(&mut source, 0);
+    let root = set(&mut source, &[("p", a), ("q", a)]);
+    thread::scope(|scope| {
+        for _ in 0..4 {
+            scope.spawn(|| {
+                for _ in 0..250 {
+                    let mut target = named(&["a", "p", "q"]);
+                    let imported = import_from_arena(&mut target, &source, root).unwrap();
+                    assert_eq!(target.display(imported), Ok("{ p: a, q: a }".into()));
                 }
             });
         }
