@@ -14,6 +14,7 @@ use reference::{Reply, NODES, TEXT, WORDS};
 
 use crate::build::{self, names, names_by, names_of_bytes, printable, Build};
 use crate::damage;
+use crate::imports;
 use crate::lookup;
 use crate::random::Random;
 use crate::shapes::{aliases, full_of_words, lambdas, shape, shape_in, Shape};
@@ -43,6 +44,7 @@ pub fn case(op: u8, random: &mut Random) -> Case {
         23 => display(Case::DisplayNix, calls::display_nix, calls::display, random),
         24 => Case::Convert(sheet(OLD, NEW, random)),
         25 => lookup::find_name(random),
+        26 => imports::import(random),
         _ => panic!("no operation {op}"),
     }
 }
@@ -75,13 +77,13 @@ fn lent(random: &mut Random, words: usize, starts: usize) -> (usize, usize) {
     }
 }
 
-fn host(arena: &Build, random: &mut Random) -> Host {
+pub fn host(arena: &Build, random: &mut Random) -> Host {
     let (words, starts) = lent(random, arena.words, arena.nodes.len());
     arena.host(words, starts)
 }
 
 /// A node number that is there, or now and then one that isn't.
-fn root(arena: &Build, root: u32, random: &mut Random) -> u32 {
+pub fn root(arena: &Build, root: u32, random: &mut Random) -> u32 {
     if !random.percent(4) {
         return root;
     }

@@ -12,6 +12,7 @@ use reference::{MEMBERS, NODES, TEXT, WORDS};
 
 use crate::build::{table, Build};
 use crate::cases::Print;
+use crate::fixed_imports;
 use crate::shapes::Shape;
 use crate::spelled::{long, FREE, LENGTHS};
 
@@ -51,6 +52,7 @@ pub fn cases(op: u8) -> Vec<Case> {
         23 => texts(Case::DisplayNix, calls::display_nix),
         24 => sheets(OLD, Case::Convert),
         25 => lookups(),
+        26 => fixed_imports::cases(),
         _ => panic!("no operation {op}"),
     }
 }
@@ -124,7 +126,7 @@ fn every_name(names: Vec<Vec<u8>>) -> (Build, u32) {
 }
 
 /// A table of so many names of three bytes.
-fn numbered(count: usize) -> Build {
+pub fn numbered(count: usize) -> Build {
     let name = |n: usize| {
         let [first, second, third] = [n / 676, n / 26 % 26, n % 26].map(|digit| digit as u8);
         vec![b'A' + first, b'a' + second, b'a' + third]
@@ -145,7 +147,7 @@ fn sized(bytes: usize) -> Build {
 }
 
 /// A table of 4,096 names, which takes 65,536 bytes if the last has 15.
-fn fullest(last: usize) -> Build {
+pub fn fullest(last: usize) -> Build {
     filling(4_096, 15, last)
 }
 
@@ -252,7 +254,7 @@ fn at_ends(names: &[Vec<u8>]) -> Vec<Vec<u8>> {
 }
 
 /// Parts of 24 names that begin with one another: all, none, every second (the others too), those of either end, every third.
-fn parts() -> Vec<Vec<Vec<u8>>> {
+pub fn parts() -> Vec<Vec<Vec<u8>>> {
     let lengths = (1..=12).flat_map(|n| [vec![b'a'; n], [vec![b'a'; n], vec![b'b']].concat()]);
     let all: BTreeSet<Vec<u8>> = lengths.collect();
     let part = |keep: fn(usize) -> bool| {
@@ -272,7 +274,7 @@ fn parts() -> Vec<Vec<Vec<u8>>> {
 }
 
 /// The types, each with its arena: a, b, `never`, `any`, `int`, `null` and `bool` are nodes 0 to 6.
-fn types() -> Vec<(Build, u32)> {
+pub fn types() -> Vec<(Build, u32)> {
     let union = |members: &[u32]| Node::Union(members.to_vec());
     let isect = |members: &[u32]| Node::Intersection(members.to_vec());
     // Each line is a type's nodes after the leaves, from 7 on; the last is its root.
@@ -312,7 +314,7 @@ fn types() -> Vec<(Build, u32)> {
     types
 }
 
-fn leaves(names: usize) -> Build {
+pub fn leaves(names: usize) -> Build {
     with_leaves(numbered(names))
 }
 
@@ -328,14 +330,14 @@ fn with_leaves(mut arena: Build) -> Build {
     arena
 }
 
-fn over(mut arena: Build, nodes: Vec<Node>) -> (Build, u32) {
+pub fn over(mut arena: Build, nodes: Vec<Node>) -> (Build, u32) {
     let roots: Vec<u32> = nodes.into_iter().map(|node| arena.put(node)).collect();
     let root = roots[roots.len() - 1];
     (arena, root)
 }
 
 /// The set that has the last 64 names of a table as its fields, and a dynamic part.
-fn last_names(names: Build) -> (Build, u32) {
+pub fn last_names(names: Build) -> (Build, u32) {
     let count = names.names.len();
     let field = |name| Field {
         optional: name % 2 == 1,
@@ -387,7 +389,7 @@ fn spliced(different: u32) -> (Build, u32) {
 }
 
 /// A chain that fills all 4,096 nodes.
-fn chain(step: fn(u32) -> Node) -> (Build, u32) {
+pub fn chain(step: fn(u32) -> Node) -> (Build, u32) {
     let mut arena = leaves(2);
     let mut root = 0;
     while arena.nodes.len() < NODES {
@@ -454,7 +456,7 @@ fn nodes() -> Vec<Case> {
 }
 
 /// An arena of so many words.
-fn filled(words: usize) -> Build {
+pub fn filled(words: usize) -> Build {
     let mut arena = leaves(2);
     let mut root = 0;
     while arena.words + 14 <= words {

@@ -8,6 +8,8 @@ mod build;
 mod cases;
 mod damage;
 mod fixed;
+mod fixed_imports;
+mod imports;
 mod lookup;
 mod random;
 mod shapes;

@@ -28,6 +28,7 @@ pub fn cases(op: u8) -> Vec<Case> {
         23 => texts(Case::DisplayNix),
         24 => sheets(OLD, Case::Convert),
         25 => lookups(),
+        26 => imports(),
         _ => panic!("no operation {op}"),
     }
 }
@@ -118,8 +119,8 @@ fn sets() -> Vec<Node> {
     all
 }
 
-/// All pairs of an arena that holds many small nodes.
-fn orders() -> Vec<Case> {
+/// An arena that holds many small nodes.
+fn small_nodes() -> Build {
     let mut arena = Build::named(vec![b"x".to_vec(), b"y".to_vec()]);
     for leaf in [Node::TyVar(1), Node::TyVar(0), Node::Top] {
         arena.put(leaf);
@@ -130,6 +131,12 @@ fn orders() -> Vec<Case> {
     for node in composites(2, true) {
         arena.put(node);
     }
+    arena
+}
+
+/// All pairs of its nodes.
+fn orders() -> Vec<Case> {
+    let arena = small_nodes();
     let host = arena.host(arena.words, arena.nodes.len());
     // One past the last, too.
     let all = 0..=arena.nodes.len() as u32;
@@ -184,6 +191,30 @@ fn equals() -> Vec<Case> {
         other => other,
     };
     orders().into_iter().map(beside).collect()
+}
+
+/// The types of two nodes, into a target that has some of their leaves and room for three nodes; and small nodes, into targets
+/// whose tables are all parts of five names.
+fn imports() -> Vec<Case> {
+    let mut some = Build::default();
+    some.put(Node::Top);
+    some.var(1);
+    let target = some.host(some.words + 7, 5);
+    let mut cases = types(|host, root| Case::Import(host, root, target.clone()));
+    let arena = small_nodes();
+    let source = arena.host(arena.words, arena.nodes.len());
+    let names = ["w", "x", "xx", "y", "z"].map(Vec::from);
+    for chosen in 0..1 << names.len() {
+        let is_chosen = |at: &usize| chosen >> at & 1 == 1;
+        let some = (0..names.len()).filter(is_chosen);
+        let mut target = Build::named(some.map(|at| names[at].clone()).collect());
+        target.put(Node::Top);
+        let target = target.host(12, 6);
+        // One past the last, too.
+        let all = 0..=arena.nodes.len() as u32;
+        cases.extend(all.map(|root| Case::Import(source.clone(), root, target.clone())));
+    }
+    cases
 }
 
 fn names() -> Vec<Case> {

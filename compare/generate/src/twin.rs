@@ -35,7 +35,7 @@ pub fn copy(arena: &Build, at: u32, random: &mut Random) -> (Build, u32) {
     (copy, numbers[at as usize])
 }
 
-fn renamed(mut node: Node, places: &[u16]) -> Node {
+pub fn renamed(mut node: Node, places: &[u16]) -> Node {
     match &mut node {
         Node::AttrSet(fields, ..) => {
             for field in fields {
@@ -48,7 +48,7 @@ fn renamed(mut node: Node, places: &[u16]) -> Node {
     node
 }
 
-fn change(node: &mut Node, random: &mut Random) {
+pub fn change(node: &mut Node, random: &mut Random) {
     match node {
         Node::Primitive(code) => *code = (*code + 1) % 8,
         Node::TyVar(index) => *index = index.wrapping_add(1),

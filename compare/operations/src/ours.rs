@@ -40,6 +40,9 @@ declare! {
     lang_ty_compact(
         usize, usize, u32,
         *mut u32, usize, *mut u32, usize, *mut usize, *mut usize, *mut u32);
+    lang_ty_import_from_arena(
+        usize, usize, u32,
+        *const u8, usize, *mut u32, usize, *mut u32, usize, *mut usize, *mut usize, *mut u32);
 }
 
 /// An arena in lent memory.
@@ -78,7 +81,7 @@ pub struct Ours {
     arena: Arena,
     /// The right side of `structurally_eq`.
     twin: Arena,
-    /// Where `compact` copies to.
+    /// Where `compact` copies to and `import_from_arena` imports.
     target: Arena,
     /// Counters at first.
     nodes: usize,
@@ -192,6 +195,7 @@ impl Ours {
                 let (text, room) = (self.text.as_mut_ptr(), self.text.len());
                 ask!(self, print, text, room, &mut self.length)
             }
+            Operation::Import | Operation::ImportStored => self.import(),
             _ => self.copy(),
         }
     }
@@ -223,6 +227,24 @@ impl Ours {
             self.target.starts.len(),
             &mut self.target.nodes,
             &mut self.target.used,
+            &mut self.number
+        )
+    }
+
+    /// Both arenas have the same table.
+    fn import(&mut self) -> u32 {
+        let target = &mut self.target;
+        ask!(
+            self,
+            lang_ty_import_from_arena,
+            self.table.as_ptr(),
+            self.table.len(),
+            target.words.as_mut_ptr(),
+            target.words.len(),
+            target.starts.as_mut_ptr(),
+            target.starts.len(),
+            &mut target.nodes,
+            &mut target.used,
             &mut self.number
         )
     }
@@ -262,6 +284,12 @@ impl Side for Ours {
 
     fn prepare(&mut self, operation: Operation, turn: usize) {
         self.arena.cut(self.nodes, self.used);
+        if matches!(operation, Operation::Import | Operation::ImportStored) {
+            self.target.cut(0, 0);
+        }
+        if operation == Operation::ImportStored {
+            assert_eq!(self.import(), 0, "the first import was refused");
+        }
         self.node = operation.node(&self.given, self.root, turn).encode();
     }
 
@@ -277,7 +305,9 @@ impl Side for Ours {
                 let text = self.text[..self.length].to_vec();
                 Answer::Text(String::from_utf8(text).unwrap())
             }
-            Operation::Compact => Answer::Copy(self.number, self.target.nodes(self.names)),
+            Operation::Compact | Operation::Import | Operation::ImportStored => {
+                Answer::Copy(self.number, self.target.nodes(self.names))
+            }
             _ => Answer::Number(self.number),
         };
         (answer, self.arena.nodes(self.names))

@@ -18,6 +18,9 @@ pub enum Operation {
     Display,
     DisplayNix,
     Compact,
+    /// Into a target without nodes, and into one that has the type.
+    Import,
+    ImportStored,
     NormalizeVars,
     NormalizeReplacingUnknown,
     NormalizeSetOps,
@@ -26,7 +29,7 @@ pub enum Operation {
 
 use Operation::*;
 
-pub const OPERATIONS: [(Operation, &str); 18] = [
+pub const OPERATIONS: [(Operation, &str); 20] = [
     (UnwrapNamed, "unwrap_named"),
     (InternStored, "intern, a stored node"),
     (InternNew, "intern, a new node"),
@@ -41,6 +44,8 @@ pub const OPERATIONS: [(Operation, &str); 18] = [
     (Display, "display"),
     (DisplayNix, "display_nix"),
     (Compact, "compact"),
+    (Import, "import_from_arena"),
+    (ImportStored, "import_from_arena, a stored type"),
     (NormalizeVars, "normalize_vars"),
     (NormalizeReplacingUnknown, "normalize_replacing_unknown"),
     (NormalizeSetOps, "normalize_set_ops"),
@@ -59,13 +64,13 @@ impl Operation {
     /// Whether it makes another type, or a copy.
     pub fn rewrites(self) -> bool {
         let renumbers = matches!(self, NormalizeVars | NormalizeReplacingUnknown);
-        renumbers || matches!(self, Compact | NormalizeSetOps | Simplify)
+        renumbers || matches!(self, Compact | Import | NormalizeSetOps | Simplify)
     }
 
     /// Whether the arena may be another afterwards.
     pub fn changes(self) -> bool {
         let interns = matches!(self, InternStored | InternNew);
-        interns || self.rewrites() && self != Compact
+        interns || self.rewrites() && !matches!(self, Compact | Import)
     }
 }
 

@@ -2,7 +2,7 @@
 
 use std::sync::Arc;
 
-use lang_ty::{simplify, OutputTy, OwnedTy, TyRef, TypeArena};
+use lang_ty::{import_from_arena, simplify, OutputTy, OwnedTy, TyRef, TypeArena};
 use reference::node::Node;
 use reference::rust::Rust;
 
@@ -13,6 +13,8 @@ pub struct Theirs {
     first: Rust,
     /// A clone of the first, made anew where a call may change it.
     rust: Rust,
+    /// Where a type is imported that is stored already.
+    twin: Rust,
     root: u32,
     node: OutputTy,
     left: OwnedTy,
@@ -38,9 +40,23 @@ impl Theirs {
             left: owned(),
             right: owned(),
             rust: first.clone(),
+            twin: first.clone(),
             first,
         }
     }
+}
+
+/// Into an arena without nodes, or into one into which it was imported before.
+fn import(theirs: &mut Theirs, operation: Operation) -> Made {
+    let (source, root) = (&theirs.rust.arena, TyRef::from_raw(theirs.root));
+    let mut met = Default::default();
+    if operation == Operation::ImportStored {
+        let target = &mut theirs.twin.arena;
+        return Made::Number(import_from_arena(target, source, root, &mut met).into_raw());
+    }
+    let mut target = TypeArena::new();
+    let root = import_from_arena(&mut target, source, root, &mut met);
+    Made::Copy(target, root)
 }
 
 #[no_mangle]
@@ -70,6 +86,7 @@ fn rust_measured(theirs: &mut Theirs, operation: Operation) -> Made {
             let (copy, root) = arena.compact(root);
             Made::Copy(copy, root)
         }
+        Operation::Import | Operation::ImportStored => import(theirs, operation),
         Operation::NormalizeVars => number(arena.normalize_vars(root)),
         Operation::NormalizeReplacingUnknown => number(arena.normalize_replacing_unknown(root)),
         Operation::NormalizeSetOps => number(arena.normalize_set_ops(root)),
@@ -84,6 +101,10 @@ impl Side for Theirs {
         if operation.changes() || self.rust.arena.len() > self.given.len() {
             self.rust = self.first.clone();
         }
+        if operation == Operation::ImportStored {
+            self.twin.arena = TypeArena::new();
+            import(self, operation);
+        }
         let node = operation.node(&self.given, self.root, turn);
         self.node = self.first.put(&node);
     }
@@ -92,8 +113,11 @@ impl Side for Theirs {
         rust_measured(self, operation)
     }
 
-    fn outcome(&self, _: Operation, made: Made) -> (Answer, Vec<Node>) {
+    fn outcome(&self, operation: Operation, made: Made) -> (Answer, Vec<Node>) {
         let answer = match made {
+            Made::Number(number) if operation == Operation::ImportStored => {
+                Answer::Copy(number, self.twin.nodes())
+            }
             Made::Number(number) => Answer::Number(number),
             Made::Numbers(numbers) => Answer::Numbers(numbers),
             Made::Text(text) => Answer::Text(text),

@@ -47,6 +47,9 @@ pub fn answer(case: &Case) -> Answer {
             let equal = calls::structurally_eq((&left.0, left.1), (&right.0, right.1));
             said(equal.map(yes))
         }
+        Case::Import(source, root, target) => {
+            changed(target, calls::import_from_arena(source, *root, target))
+        }
         Case::WriteSheet(host, root, room) => {
             said(calls::write_sheet(host, *root, *room).map(text))
         }

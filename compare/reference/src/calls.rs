@@ -1,6 +1,7 @@
 //! What each call open to a host replies. Numbers 1 and 2 come first, then 6 or 3, 4, 5.
 
 use std::cmp::Ordering;
+use std::collections::BTreeSet;
 
 use lang_ty::{TyRef, TypeArena};
 
@@ -174,4 +175,37 @@ pub fn structurally_eq(left: (&Host, u32), right: (&Host, u32)) -> Reply<bool> {
     below(right.1, &other_nodes)?;
     let other = Rust::holding(&other_nodes, &other_names);
     Ok(Rust::holding(&nodes, &names).structurally_eq(left.1, other, right.1))
+}
+
+/// The source's 1 and 2, the target's 1 and 2, 6, 12, then 7. The Rust has names as strings and stores whatever it is given, so
+/// that 12 and 7 are also read off the arena that it leaves: a name that isn't in the table, a node that doesn't fit.
+pub fn import_from_arena(source: &Host, root: u32, target: &Host) -> Reply<Changed> {
+    let (names, nodes) = read(source)?;
+    let (target_names, target_nodes) = read(target)?;
+    below(root, &nodes)?;
+    let mut rust = Rust::holding(&target_nodes, &target_names);
+    let new = rust.import_from_arena(&Rust::holding(&nodes, &names), root);
+    let lacks = |name: u16| !target_names.contains(&names[usize::from(name)]);
+    let lacking = names_of(&nodes, root).into_iter().any(lacks);
+    assert_eq!(rust.has_its_names(), !lacking, "12 is another's");
+    if lacking {
+        return Err(12);
+    }
+    let after = rust.nodes();
+    match first_refusal(&after, lent(&target.memory)) {
+        Some(number) => Err(number),
+        None => Ok((vec![new], target.memory.holding(&after))),
+    }
+}
+
+/// The names of the nodes that are reachable from a root: a child is below its node, so one walk down meets them all.
+fn names_of(nodes: &[Node], root: u32) -> BTreeSet<u16> {
+    let mut names = BTreeSet::new();
+    let mut met = BTreeSet::from([root]);
+    while let Some(number) = met.pop_last() {
+        let node = &nodes[number as usize];
+        met.extend(node.children());
+        names.extend(node.names());
+    }
+    names
 }

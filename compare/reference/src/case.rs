@@ -30,13 +30,15 @@ pub enum Case {
     /// The arena to be copied from, the root, and the target.
     Compact(Host, u32, Memory),
     Equal((Host, u32), (Host, u32)),
+    /// The source, the root there, and the target.
+    Import(Host, u32, Host),
     WriteSheet(Host, u32, u32),
     DisplayNix(Host, u32, u32),
 }
 
 /// The numbers of the operations, all that there are.
-pub const OPS: [u8; 25] = [
-    1, 2, 3, 4, 5, 6, 7, 8, 9, 10, 11, 12, 13, 14, 15, 16, 17, 18, 19, 20, 21, 22, 23, 24, 25,
+pub const OPS: [u8; 26] = [
+    1, 2, 3, 4, 5, 6, 7, 8, 9, 10, 11, 12, 13, 14, 15, 16, 17, 18, 19, 20, 21, 22, 23, 24, 25, 26,
 ];
 
 /// Cases are taken from the front.
@@ -119,6 +121,7 @@ impl Iterator for Reader<'_> {
             23 => Case::DisplayNix(self.host(), self.word(), self.word()),
             24 => Case::Convert(self.text(4)),
             25 => Case::FindName(self.text(4), self.text(4)),
+            26 => Case::Import(self.host(), self.word(), self.host()),
             op => panic!("no operation {op}"),
         })
     }
@@ -195,6 +198,7 @@ impl Case {
             Case::DisplayNix(..) => 23,
             Case::Convert(_) => 24,
             Case::FindName(..) => 25,
+            Case::Import(..) => 26,
         }
     }
 
@@ -228,6 +232,11 @@ impl Case {
                     to.host(host);
                     to.word(*root);
                 }
+            }
+            Case::Import(source, root, target) => {
+                to.host(source);
+                to.word(*root);
+                to.host(target);
             }
             Case::NameAt(table, number) => {
                 to.text(table, 4);

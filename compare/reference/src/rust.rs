@@ -78,6 +78,22 @@ impl Rust {
         left.structurally_eq(&right)
     }
 
+    /// The number here of a type imported from another arena, whose names come along as strings.
+    pub fn import_from_arena(&mut self, source: &Rust, root: u32) -> u32 {
+        let mut met = Default::default();
+        lang_ty::import_from_arena(&mut self.arena, &source.arena, at(root), &mut met).into_raw()
+    }
+
+    /// Whether the table has every name of the arena.
+    pub fn has_its_names(&self) -> bool {
+        let is_here = |name: &SmolStr| self.names.binary_search(name).is_ok();
+        (0..self.arena.len() as u32).all(|number| match &self.arena[at(number)] {
+            OutputTy::AttrSet(set) => set.fields.keys().all(is_here),
+            OutputTy::Named(name, _) => is_here(name),
+            _ => true,
+        })
+    }
+
     pub fn order(&self, left: u32, right: u32) -> Ordering {
         self.arena[at(left)].cmp(&self.arena[at(right)])
     }

@@ -117,6 +117,50 @@ fn equal() {
     assert_eq!(equal((arena(), 1), (other(), 1)), "refused 6");
 }
 
+/// Faults in the order in which they are found, each the target as lent; names by their texts, and children from the left.
+#[test]
+fn import() {
+    let nodes = [
+        Node::TyVar(7),
+        Node::Bottom,
+        Node::Lambda(1, 0),
+        Node::Named(0, 2),
+    ];
+    let arena = || host(&nodes, 9, 4);
+    let under = |table: &[u8], words, starts| Host {
+        table: table.to_vec(),
+        ..host(&[Node::TyVar(7)], words, starts)
+    };
+    let import = |from, root, to| line(Case::Import(from, root, to));
+    let after = "W 30000001 7 0 50000002 1 0 90000001 8002 S 0 2 3 6";
+    let names = b"\x01w\x01x";
+    assert_eq!(
+        import(arena(), 3, under(names, 8, 4)),
+        format!("ok 3 4 8 {after}")
+    );
+    for (words, starts) in [(7, 4), (8, 3), (2, 1)] {
+        let refused = "refused 7 W 30000001 7 S";
+        assert_eq!(import(arena(), 3, under(names, words, starts)), refused);
+    }
+    assert_eq!(
+        import(arena(), 0, under(b"", 2, 1)),
+        "ok 0 1 2 W 30000001 7 S"
+    );
+    // Each has the fault of the one before, and one that comes before it.
+    let no_room = || under(b"\x01w", 2, 1);
+    assert!(import(arena(), 3, no_room()).starts_with("refused 12 "));
+    assert!(import(arena(), 4, no_room()).starts_with("refused 6 "));
+    let unsound = || faulty(no_room(), false, true);
+    assert!(import(arena(), 4, unsound()).starts_with("refused 2 "));
+    let faulty_target = || faulty(no_room(), true, true);
+    assert!(import(arena(), 4, faulty_target()).starts_with("refused 1 "));
+    let unsound_source = faulty(arena(), false, true);
+    assert!(import(unsound_source, 4, faulty_target()).starts_with("refused 2 "));
+    let unsound_target = faulty(no_room(), false, true);
+    let faulty_source = faulty(arena(), true, true);
+    assert!(import(faulty_source, 4, unsound_target).starts_with("refused 1 "));
+}
+
 #[test]
 fn find_name() {
     let find = |table: &[u8], text: &[u8]| line(Case::FindName(table.to_vec(), text.to_vec()));

@@ -23,7 +23,7 @@ fn run() -> io::Result<()> {
     for case in Reader(&cases) {
         let Answer { line, left_out } = answer_or_end(&case);
         writeln!(out, "{line}")?;
-        count(case.op(), verdict(&line));
+        count(case.op(), verdict(&case, &line));
         if left_out {
             count(case.op(), "without the unchanged Rust".into());
         }
@@ -43,14 +43,24 @@ fn answer_or_end(case: &Case) -> Answer {
     })
 }
 
-/// The first word of an answer if it says how the call went, with the number of a refusal.
-fn verdict(line: &str) -> String {
+/// The first word of an answer if it says how the call went, with the number of a refusal. An import that adds nothing counts
+/// apart.
+fn verdict(case: &Case, line: &str) -> String {
     let mut words = line.split(' ');
     match words.next() {
         Some("refused") => format!("refused {}", words.next().unwrap()),
+        Some("ok") if adds_nothing(case, words.nth(1)) => "ok, nothing added".into(),
         Some(word @ ("ok" | "before" | "same" | "after" | "yes" | "no" | "found" | "absent")) => {
             word.into()
         }
         _ => "answered".into(),
+    }
+}
+
+/// Whether a type was imported into a target that has as many nodes after as before.
+fn adds_nothing(case: &Case, nodes: Option<&str>) -> bool {
+    match case {
+        Case::Import(_, _, target) => nodes == Some(target.memory.nodes.to_string().as_str()),
+        _ => false,
     }
 }

@@ -1,11 +1,12 @@
 //! What the program `rewritten` must print, made as the lines of `walked` are: each call is put as a case, and its answer is the
-//! one that the reference gives to `vectors` and `vectors_reading`. The stored lines were made, and are made anew when a type or a call joins, by
+//! one that the reference gives to `vectors` and the programs beside it. The stored lines were made, and are made anew when a type or a call joins, by
 //!
 //!     compare/target/release/rewritten >crates/rewritten/stdout
 //!
 //! The test says whether they still are these.
 
 use reference::answer::answer;
+use reference::calls::import_from_arena;
 use reference::case::{Case, Host};
 use reference::deep::{host, types};
 use reference::memory::Memory;
@@ -52,7 +53,23 @@ fn calls(nodes: &[Node]) -> Vec<(String, String)> {
     lines.push(("structurally_eq".into(), equal(root)));
     let before = "structurally_eq of the node before";
     lines.push((before.into(), equal(root - 1)));
+    lines.extend(imports(&given, root));
     lines
+}
+
+/// The type imported into no node, and once more into what that leaves.
+fn imports(given: &Host, root: u32) -> [(String, String); 2] {
+    let first = host(&[]);
+    let (_, memory) = import_from_arena(given, root, &first).expect("no room");
+    let second = Host {
+        memory,
+        ..first.clone()
+    };
+    let into = |target| said(Case::Import(given.clone(), root, target));
+    [
+        ("import_from_arena".into(), into(first)),
+        ("import_from_arena once more".into(), into(second)),
+    ]
 }
 
 fn lines() -> String {
