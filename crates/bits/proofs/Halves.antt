@@ -1,11 +1,11 @@
--- One word: a bit by halving is what a shift reads, and `|` and `^` go bit by bit.
-use Prim.Native.Nat.{ℕ, zero, suc, _+_, _*_, _/_, _%_, _^_, _<_, max}
+-- One word: a bit by halving is what a shift reads, and `|`, `&` and `^` go bit by bit.
+use Prim.Native.Nat.{ℕ, zero, suc, _+_, _*_, _/_, _%_, _^_, _-_, _<_, min, max}
 use mathlib.Core.Path.{_≡_, refl, sym, ap, ap₂, _∙_}
-use mathlib.Core.Bool.{Bool, true, false, _||_, xor, or-true, or-false}
+use mathlib.Core.Bool.{Bool, true, false, _||_, _&&_, xor, or-true, or-false}
 use native.Mathlib.Nat.{pow-suc, pow-zero, div-div-eq-div-mul, mul-comm, div-one}
 use native.Mathlib.Omega.{arith}
 use lib.Dec.{eqb}
-use lib.Bits.{differ, bitOr, bitXor, or-step, xor-step}
+use lib.Bits.{differ, bitAnd, bitOr, bitXor, and-step, or-step, xor-step}
 use lib.Pow.{shl-exact}
 use Rattle.bits.specs.Bits.{bit, either, either-word}
 
@@ -17,6 +17,10 @@ bit-shift x (suc b) =
 
 half-pow : (b : ℕ) → 2 ^ suc b ≡ 2 * 2 ^ b
 half-pow b = pow-suc 2 b ∙ mul-comm (2 ^ b) 2
+
+some-power : (k : ℕ) → 0 < 2 ^ k
+some-power zero = omega (arith, pow-zero 2)
+some-power (suc k) = omega (arith, half-pow k, some-power k)
 
 pub zero-bit : (b : ℕ) → bit 0 b ≡ false
 unfolding bit
@@ -95,6 +99,22 @@ bit-or = bit-by-bit bitOr max _||_ or-step or-digits
 pub bit-either : (e : Bool) (x y b : ℕ) → bit (either-word e x y) b ≡ either e (bit x b) (bit y b)
 bit-either false = bit-or
 bit-either true = bit-by-bit bitXor differ xor xor-step xor-digits
+
+and-digits : (p q : Bool) → min (digit p) (digit q) ≡ digit (p && q)
+and-digits true true = refl
+and-digits true false = refl
+and-digits false true = refl
+and-digits false false = refl
+
+pub bit-and : (x y b : ℕ) → bit (bitAnd x y) b ≡ (bit x b && bit y b)
+bit-and = bit-by-bit bitAnd min _&&_ and-step and-digits
+
+-- ---- all bits set
+pub ones-bit : (k b : ℕ) → b < k → bit (2 ^ k - 1) b ≡ true
+unfolding bit
+ones-bit zero b h = absurd (omega arith)
+ones-bit (suc k) zero h = let e : (2 ^ suc k - 1) % 2 ≡ 1 = omega (arith, half-pow k, some-power k) in rw e
+ones-bit (suc k) (suc b) h = let e : (2 ^ suc k - 1) / 2 ≡ 2 ^ k - 1 = omega (arith, half-pow k, some-power k) in rw e (ones-bit k b (omega arith))
 
 -- ---- one bit set
 pub or-same : (x b : ℕ) → bit (bitOr x (2 ^ b)) b ≡ true

@@ -2,6 +2,7 @@
 // call of that name and tells the answer as a number, 0 or that of a refusal. A result is written where it is lent; a refusal
 // writes none.
 use equal::structurally_eq;
+use fits::fits;
 use free_vars::Listed;
 use free_vars::list_free_type_vars;
 use questions::lambdas::has_shared_tyvar_across_lambda_params;
@@ -24,6 +25,7 @@ ghost use Rattle.questions.specs.Lambdas.{has-shared-tyvar-across-lambda-params
 ghost use Rattle.questions.specs.Named.{unwrap-named, unwrapped-out};
 ghost use Rattle.free_vars.specs.FreeVars.{free-list};
 ghost use Rattle.equal.specs.Reply.{equal-reply};
+ghost use Rattle.fits.specs.Fits.{fits-reply};
 ghost use Rattle.lang_ty.specs.Told.{told, tell, as-number};
 
 // The number of a refused question.
@@ -260,4 +262,24 @@ pub extern "C" fn lang_ty_structurally_eq(
         right_root,
     );
     tell_asked(answer, is)
+}
+
+// Whether a fix fits the type of the root.
+#[no_mangle]
+pub extern "C" fn lang_ty_fits(
+    table: &[u8],
+    words: &[u32],
+    starts: &[u32],
+    nodes: usize,
+    used: usize,
+    root: u32,
+    fix: &[u32],
+    answer: &mut u32,
+) -> u32
+    ensures { λ r. ⌜ told r (now (answer .exit))
+        ≡ tell (now (answer .entry)) (as-number bit (fits-reply (now (table .entry)) (now (words .entry)) (now (starts .entry))
+        record { nodes = nodes; words = used } root (now (fix .entry)))) ⌝ }
+{
+    let c = Counters { nodes, words: used };
+    tell_asked(fits(table, words, starts, c, root, fix), answer)
 }

@@ -64,7 +64,7 @@ fn learn(node: &[u32], skip: bool, n: usize, met: &mut [u64; 64])
 }
 
 // Whether the type of the root has a variable, lambdas' params passed over or not. The set has the nodes whose types have one.
-fn has_var(words: &[u32], starts: &[u32], c: Counters, root: usize, skip: bool) -> bool
+pub fn has_var(words: &[u32], starts: &[u32], c: Counters, root: usize, skip: bool) -> bool
     requires { ⌜ InRange (now words) (now starts) c root ⌝ }
     ensures { λ r. ⌜ Says (has-var skip) (now (words .entry)) (now (starts .entry)) c root r ⌝ }
 {

@@ -1,0 +1,11 @@
+pub mod Seeking
+pub mod SetFits
+pub mod ValueWords
+pub mod NodeWords
+pub mod Held
+pub mod Joining
+pub mod Pairing
+pub mod Agreeing
+pub mod NodeRows
+pub mod Taking
+pub mod Deciding

@@ -1,0 +1,5 @@
+pub mod Values
+pub mod Fix
+pub mod Theorems
+pub mod Worked
+pub mod Inner
