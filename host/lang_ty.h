@@ -15,13 +15,15 @@
 #define LANG_TY_VERSION_MINOR 1
 #define LANG_TY_VERSION_PATCH 0
 
-/* The most names and bytes of a table, words and starts of an arena, and bytes of the text of a type and of a sheet. */
+/* The most names and bytes of a table, words and starts of an arena, bytes of the text of a type and of a sheet, and values of a
+ * fix. */
 #define LANG_TY_NAMES 4096
 #define LANG_TY_TABLE 65536
 #define LANG_TY_WORDS 16384
 #define LANG_TY_STARTS 4096
 #define LANG_TY_TEXT 65536
 #define LANG_TY_SHEET 65536
+#define LANG_TY_VALUES 1024
 /* How much is lent, no more and no less, where no length is passed. */
 #define LANG_TY_VARS 4096
 #define LANG_TY_TYVAR_NAME 11
@@ -49,7 +51,9 @@ enum lang_ty_answer {
     LANG_TY_TOO_LONG = 9,
     LANG_TY_BAD_SHEET = 10,
     LANG_TY_BAD_OLD_SHEET = 11,
-    LANG_TY_LACKING_NAME = 12
+    LANG_TY_LACKING_NAME = 12,
+    LANG_TY_BAD_FIX = 13,
+    LANG_TY_HAS_VARIABLE = 14
 };
 
 /* The kinds of nodes, under the Rust's names; `never` is the bottom and `any` the top. */
@@ -77,6 +81,18 @@ enum lang_ty_primitive {
     LANG_TY_PRIMITIVE_PATH = 5,
     LANG_TY_PRIMITIVE_URI = 6,
     LANG_TY_PRIMITIVE_NUMBER = 7
+};
+
+/* The kinds of values. */
+enum lang_ty_value {
+    LANG_TY_VALUE_NULL = 0,
+    LANG_TY_VALUE_BOOL = 1,
+    LANG_TY_VALUE_INT = 2,
+    LANG_TY_VALUE_FLOAT = 3,
+    LANG_TY_VALUE_STRING = 4,
+    LANG_TY_VALUE_PATH = 5,
+    LANG_TY_VALUE_LIST = 6,
+    LANG_TY_VALUE_SET = 7
 };
 
 #ifdef __cplusplus
@@ -170,6 +186,15 @@ uint32_t lang_ty_structurally_eq(
     const uint32_t *right_words, size_t right_words_len, const uint32_t *right_starts, size_t right_starts_len,
     size_t right_nodes, size_t right_used, uint32_t right_root,
     uint32_t *is);
+
+/* Whether a fix fits the type; `answer` is set to 0 or 1. The fix is 1 to LANG_TY_VALUES values, one after another, and the last
+ * is the fix itself: heads of the kinds above, a list with a child for each element, a set with fields by rising name that aren't
+ * optional, each child an earlier value. 13: any other words, or none; 14: the type has a variable. */
+uint32_t lang_ty_fits(
+    const uint8_t *table, size_t table_len,
+    const uint32_t *words, size_t words_len, const uint32_t *starts, size_t starts_len,
+    size_t nodes, size_t used,
+    uint32_t root, const uint32_t *fix, size_t fix_len, uint32_t *answer);
 
 /* The text of the type, with names as they stand in the table; bytes past it stay, and 9 sets all of them to 0. */
 uint32_t lang_ty_display(
@@ -272,10 +297,11 @@ uint32_t lang_ty_convert_sheet(
 #endif
 
 /* Helpers of this header, which the library neither has nor needs: a host may write and read words without them. What
- * doesn't fit the bits of a word becomes LANG_TY_NO_WORD, and a node with that as head, child or field is refused by 3. */
+ * doesn't fit the bits of a word becomes LANG_TY_NO_WORD, and a node with that as head, child or field is refused by 3, a fix by
+ * 13. */
 #define LANG_TY_NO_WORD 4294967295u
 
-/* The head of a node with so many words after it. */
+/* The head of a node or a value with so many words after it. */
 static inline uint32_t lang_ty_head(uint32_t kind, uint32_t count)
 {
     return kind < 16 && count < 65536 ? kind << 28 | count : LANG_TY_NO_WORD;
@@ -293,7 +319,8 @@ static inline uint32_t lang_ty_child(uint32_t number)
     return number < LANG_TY_STARTS ? number : LANG_TY_NO_WORD;
 }
 
-/* A field: the number of its name and that of its type. The word of a named type is that of a field that isn't optional. */
+/* A field: the number of its name and that of its type or value. The word of a named type is that of a field that isn't
+ * optional. */
 static inline uint32_t lang_ty_field(uint32_t name, uint32_t child, bool optional)
 {
     return name < 65536 && child < LANG_TY_STARTS ? (uint32_t)optional << 31 | name << 15 | child : LANG_TY_NO_WORD;
@@ -353,6 +380,8 @@ static inline const char *lang_ty_sentence(uint32_t answer)
         "refused 10, caused by the sender of the sheet: it ends early, goes on, is too long or repeats a node",
         "refused 11, caused by the sender of the old sheet: the rules of old sheets refuse it before simplification",
         "refused 12, caused by the author of the call: a name of the type isn't in the target's table",
+        "refused 13, caused by the author of the fix: it has no value or over 1,024, or its words break the layout",
+        "refused 14, caused by the author of the call: the type has a variable",
     };
     return answer < sizeof sentences / sizeof *sentences ? sentences[answer] : "no answer of this library";
 }

@@ -70,6 +70,10 @@ struct list {
 #define INTERSECTION(count) lang_ty_head(LANG_TY_KIND_INTERSECTION, count)
 #define NAMED(name, child) lang_ty_head(LANG_TY_KIND_NAMED, 1), FIELD(name, child)
 #define NEG(child) lang_ty_head(LANG_TY_KIND_NEG, 1), lang_ty_child(child)
+/* The words of a value, or its head where it has others within. */
+#define VALUE(kind) lang_ty_head(LANG_TY_VALUE_##kind, 0)
+#define LIST_OF(count) lang_ty_head(LANG_TY_VALUE_LIST, count)
+#define SET_OF(count) lang_ty_head(LANG_TY_VALUE_SET, count)
 
 /* What a host lends: a name table and an arena. No byte of a table is 0. */
 struct host {
@@ -150,6 +154,7 @@ struct row {
     size_t spare_words, spare_starts;
 
     struct list node;          /* of intern */
+    struct list fix;           /* of fits */
     uint32_t other;            /* of compare, and the right root of structurally_eq */
     const char *right_table;   /* of structurally_eq, and the target's before import_from_arena */
     struct list right;
@@ -223,11 +228,22 @@ WRITES_BYTES(display, TEXT)
 WRITES_BYTES(display_nix, TEXT)
 WRITES_BYTES(write_sheet, SHEET)
 
-static uint32_t make_intern(const struct row *row, struct host *h, struct results *r)
+/* Where the words lie, which is somewhere even if there are none. */
+static const uint32_t *place_of(struct list words)
 {
     static const uint32_t none;
-    const uint32_t *node = row->node.count ? row->node.at : &none;
-    return TOLD(lang_ty_intern, CHANGED(h), node, row->node.count, &r->number);
+    return words.count ? words.at : &none;
+}
+
+static uint32_t make_fits(const struct row *row, struct host *h, struct results *r)
+{
+    return TOLD(lang_ty_fits, READ(h), row->root, place_of(row->fix), row->fix.count, &r->number);
+}
+static const struct call fits = {make_fits, NUMBER};
+
+static uint32_t make_intern(const struct row *row, struct host *h, struct results *r)
+{
+    return TOLD(lang_ty_intern, CHANGED(h), place_of(row->node), row->node.count, &r->number);
 }
 static const struct call intern = {make_intern, NUMBER};
 
@@ -360,6 +376,14 @@ static void run(const struct row *row)
 #define ODD_NAMED WORDS(VAR(0), NAMED(0, 0), NAMED(2, 1), SET(3), FIELD(1, 0), lang_ty_field(2, 1, true), FIELD(3, 2))
 #define EMPTY_SETS WORDS(SET(0), lang_ty_set_head(0, true, false))
 
+/* { p: int, q?: null }, open in node 3 and with bool for other fields in node 4; [int], int | null, int & null and ~int are nodes 5
+ * to 8, int -> null is node 9, [a] node 11. */
+#define FIELDS FIELD(0, 0), lang_ty_field(1, 1, true)
+#define HELD \
+    WORDS(INT, NULL_TYPE, BOOL, lang_ty_set_head(2, true, false), FIELDS, lang_ty_set_head(2, false, true), FIELDS, lang_ty_child(2), \
+          LIST(0), UNION(2), 0, 1, INTERSECTION(2), 0, 1, NEG(0), LAMBDA(0, 1), VAR(0), LIST(10))
+#define P_Q_AND_R "\1p\1q\1r"
+
 /* The sheet of document 01, and what it holds. */
 static const uint8_t example[] = {0, 0, 0, 3, 0, 2, 0x30, 0, 0, 1, 0, 0, 0, 0, 0x20, 0,
                                   0, 1, 0, 0, 0, 2, 0x70, 0, 0, 2, 0, 0, 0, 0, 0, 0, 0, 1};
@@ -405,13 +429,13 @@ static void check_words(void)
 /* Each sentence begins with its own number; tests/host/header.rs holds the rest against the crate's. */
 static void check_sentences(void)
 {
-    for (uint32_t answer = LANG_TY_BAD_TABLE; answer <= LANG_TY_LACKING_NAME; answer++) {
+    for (uint32_t answer = LANG_TY_BAD_TABLE; answer <= LANG_TY_HAS_VARIABLE; answer++) {
         char begins[32];
         int length = snprintf(begins, sizeof begins, "refused %" PRIu32 ", caused by ", answer);
         check(__LINE__, begins, strncmp(lang_ty_sentence(answer), begins, (size_t)length), 0);
     }
     check(__LINE__, "the sentence of 0", strcmp(lang_ty_sentence(LANG_TY_OK), "not refused"), 0);
-    check(__LINE__, "the sentence of 13", strcmp(lang_ty_sentence(13), "no answer of this library"), 0);
+    check(__LINE__, "the sentence of 15", strcmp(lang_ty_sentence(15), "no answer of this library"), 0);
 }
 
 #define RUN(what, ...) run(&(const struct row){.line = __LINE__, .call = &what, __VA_ARGS__})
@@ -448,6 +472,78 @@ static void check_equality(void)
     RUN(structurally_eq, .given = A_OR_INT, .root = 4, .right = TWICE, .other = 9, .answer = LANG_TY_BAD_ARENA);
     RUN(structurally_eq, .given = TWICE, .right_table = "\2p", .answer = LANG_TY_BAD_ARENA);
     RUN(structurally_eq, .given = A_OR_INT, .root = 2, .right = A_OR_INT, .other = 4, .answer = LANG_TY_BAD_ROOT);
+}
+
+#define FITS(of, is, ...) RUN(fits, .table = P_Q_AND_R, .given = HELD, .root = of, .number = is, .fix = WORDS(__VA_ARGS__))
+#define REFUSES(of, with, ...) RUN(fits, .table = P_Q_AND_R, .given = HELD, .root = of, .answer = with, .fix = WORDS(__VA_ARGS__))
+
+static void check_fits(void)
+{
+    FITS(3, 1, VALUE(INT), SET_OF(1), FIELD(0, 0));
+    FITS(3, 1, VALUE(NULL), VALUE(INT), SET_OF(2), FIELD(0, 1), FIELD(1, 0));
+    FITS(3, 1, VALUE(PATH), VALUE(INT), SET_OF(2), FIELD(0, 1), FIELD(2, 0));
+    FITS(3, 0, VALUE(NULL), SET_OF(1), FIELD(1, 0)); /* without p */
+    FITS(3, 0, VALUE(NULL), SET_OF(1), FIELD(0, 0));
+    FITS(3, 0, VALUE(INT), SET_OF(2), FIELD(0, 0), FIELD(1, 0)); /* q is there, and no null */
+    FITS(3, 0, LIST_OF(0));
+    FITS(4, 1, VALUE(INT), VALUE(BOOL), SET_OF(2), FIELD(0, 0), FIELD(2, 1));
+    FITS(4, 0, VALUE(INT), SET_OF(2), FIELD(0, 0), FIELD(2, 0));
+    FITS(5, 1, LIST_OF(0));
+    FITS(5, 1, VALUE(INT), LIST_OF(2), lang_ty_child(0), lang_ty_child(0));
+    FITS(5, 0, VALUE(INT), VALUE(NULL), LIST_OF(2), lang_ty_child(0), lang_ty_child(1));
+    FITS(5, 0, SET_OF(0));
+    FITS(6, 1, VALUE(NULL));
+    FITS(6, 0, VALUE(BOOL));
+    FITS(7, 0, VALUE(INT));
+    FITS(8, 0, VALUE(INT));
+    FITS(8, 1, VALUE(FLOAT));
+    FITS(9, 0, VALUE(NULL));
+    FITS(0, 1, VALUE(NULL), VALUE(INT)); /* nothing leads to the first value */
+    RUN(fits, .given = BARE, .root = 0, .number = 0, .fix = WORDS(VALUE(STRING)));
+    RUN(fits, .given = BARE, .root = 1, .number = 1, .fix = WORDS(VALUE(STRING)));
+    RUN(fits, .table = LINE_AND_TARGET, .given = TARGET_TYPE, .root = 2, .number = 1, .fix = WORDS(VALUE(INT)));
+    RUN(fits, .table = LINE_AND_TARGET, .given = TARGET_TYPE, .root = 2, .number = 0, .fix = WORDS(VALUE(FLOAT)));
+}
+
+static void check_refused_fixes(void)
+{
+    RUN(fits, .table = P_Q_AND_R, .given = HELD, .root = 0, .answer = LANG_TY_BAD_FIX);
+    REFUSES(0, LANG_TY_BAD_FIX, lang_ty_head(8, 0));
+    REFUSES(0, LANG_TY_BAD_FIX, LANG_TY_NO_WORD);
+    REFUSES(0, LANG_TY_BAD_FIX, lang_ty_head(LANG_TY_VALUE_INT, 1), 0);
+    REFUSES(0, LANG_TY_BAD_FIX, VALUE(INT) | 1 << 16);
+    REFUSES(0, LANG_TY_BAD_FIX, VALUE(INT), LIST_OF(2), 0);
+    REFUSES(0, LANG_TY_BAD_FIX, VALUE(INT), LIST_OF(1), 1);
+    REFUSES(0, LANG_TY_BAD_FIX, VALUE(INT), LIST_OF(1), lang_ty_child(4096));
+    REFUSES(0, LANG_TY_BAD_FIX, VALUE(INT), SET_OF(1), FIELD(3, 0));
+    REFUSES(0, LANG_TY_BAD_FIX, VALUE(INT), SET_OF(1), FIELD(65536, 0));
+    REFUSES(0, LANG_TY_BAD_FIX, VALUE(INT), SET_OF(1), lang_ty_field(0, 0, true));
+    REFUSES(0, LANG_TY_BAD_FIX, VALUE(INT), SET_OF(2), FIELD(0, 0), FIELD(0, 0));
+    REFUSES(0, LANG_TY_BAD_FIX, VALUE(INT), SET_OF(2), FIELD(1, 0), FIELD(0, 0));
+    REFUSES(0, LANG_TY_BAD_FIX, lang_ty_head(8, 0), VALUE(INT));
+    REFUSES(10, LANG_TY_HAS_VARIABLE, VALUE(INT));
+    REFUSES(11, LANG_TY_HAS_VARIABLE, VALUE(INT));
+    REFUSES(11, LANG_TY_BAD_FIX, lang_ty_head(8, 0));
+    REFUSES(12, LANG_TY_BAD_ROOT, lang_ty_head(8, 0));
+    /* As many values as a fix may have, and one more. */
+    static const uint32_t nulls[LANG_TY_VALUES + 1];
+    RUN(fits, .given = WORDS(NULL_TYPE), .fix = {nulls, LANG_TY_VALUES}, .number = 1);
+    RUN(fits, .given = WORDS(NULL_TYPE), .fix = {nulls, LANG_TY_VALUES + 1}, .answer = LANG_TY_BAD_FIX);
+}
+
+/* Which values each primitive type takes, one bit a kind. */
+static void check_kinds(void)
+{
+#define TAKES(kind) (1u << LANG_TY_VALUE_##kind)
+    static const uint32_t taken[] = {
+        [LANG_TY_PRIMITIVE_NULL] = TAKES(NULL), [LANG_TY_PRIMITIVE_BOOL] = TAKES(BOOL),
+        [LANG_TY_PRIMITIVE_INT] = TAKES(INT), [LANG_TY_PRIMITIVE_FLOAT] = TAKES(FLOAT),
+        [LANG_TY_PRIMITIVE_STRING] = TAKES(STRING), [LANG_TY_PRIMITIVE_PATH] = TAKES(PATH),
+        [LANG_TY_PRIMITIVE_URI] = TAKES(STRING), [LANG_TY_PRIMITIVE_NUMBER] = TAKES(INT) | TAKES(FLOAT),
+    };
+    for (uint32_t code = 0; code < COUNT(taken); code++)
+        for (uint32_t kind = LANG_TY_VALUE_NULL; kind <= LANG_TY_VALUE_SET; kind++)
+            RUN(fits, .given = WORDS(PRIMITIVE(code)), .fix = WORDS(lang_ty_head(kind, 0)), .number = taken[code] >> kind & 1);
 }
 
 static void check_texts(void)
@@ -639,7 +735,7 @@ static void check_normalize(void)
 
 static const struct call *const all[] = {
     &compare, &count_reachable, &unwrap_named, &has_type_vars, &needs_var_normalization, &contains_bare_tyvar,
-    &has_shared_tyvar_across_lambda_params, &free_type_vars, &structurally_eq, &display, &display_nix, &write_sheet,
+    &has_shared_tyvar_across_lambda_params, &free_type_vars, &structurally_eq, &fits, &display, &display_nix, &write_sheet,
     &intern, &simplify, &normalize_vars, &normalize_replacing_unknown, &normalize_set_ops, &compact, &import_from_arena,
 };
 
@@ -911,6 +1007,9 @@ int main(void)
     check_sentences();
     check_questions();
     check_equality();
+    check_fits();
+    check_refused_fixes();
+    check_kinds();
     check_texts();
     check_nix_texts();
     check_primitives();

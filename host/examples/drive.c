@@ -1,6 +1,6 @@
-/* Builds the type of a drive as inference would leave it, simplifies it and prints it. Then a node with a name that isn't in
- * the table is refused, the name is added, and the node is stored. It prints what drive.rs does, which goes through the
- * crate; host/test-c holds both against each other.
+/* Builds the type of a drive as inference would leave it, simplifies it and prints it, and holds two fixes against it. Then a
+ * node with a name that isn't in the table is refused, the name is added, and the node is stored. It prints what drive.rs does,
+ * which goes through the crate; host/test-c holds both against each other.
  *
  *     cc -Ihost host/examples/drive.c target/staticlib/liblang_ty.a -o drive && ./drive
  */
@@ -111,6 +111,14 @@ static void print(const struct host *h, const char *what, uint32_t root)
     printf("%s %.*s\n", what, (int)length, (const char *)text);
 }
 
+/* Whether the drive takes a fix: the type of that is its param, the first word after its head. */
+static const char *takes(const struct host *h, uint32_t type, const uint32_t *values, size_t count)
+{
+    uint32_t param = lang_ty_child_of(h->words[h->starts[type] + 1]), answer;
+    must(lang_ty_fits(LENT(h), h->nodes, h->used, param, values, count, &answer));
+    return answer ? "true" : "false";
+}
+
 int main(void)
 {
     static struct host host;
@@ -126,6 +134,13 @@ int main(void)
     printf("passes: %" PRIu32 "\n", passes);
     must(lang_ty_normalize_vars(LENT(&host), &host.nodes, &host.used, after, &shown));
     print(&host, "shown: ", shown);
+
+    const uint32_t both[] = {lang_ty_head(LANG_TY_VALUE_FLOAT, 0), lang_ty_head(LANG_TY_VALUE_NULL, 0),
+                             lang_ty_head(LANG_TY_VALUE_SET, 2), lang_ty_field(CHAINAGE, 0, false), lang_ty_field(ROLL, 1, false)};
+    printf("takes chainage and roll: %s\n", takes(&host, shown, both, 5));
+    const uint32_t alone[] = {lang_ty_head(LANG_TY_VALUE_FLOAT, 0), lang_ty_head(LANG_TY_VALUE_SET, 1),
+                              lang_ty_field(CHAINAGE, 0, false)};
+    printf("takes chainage alone: %s\n", takes(&host, shown, alone, 3));
 
     const uint32_t node[] = {lang_ty_head(LANG_TY_KIND_NAMED, 1), lang_ty_field(STEERING, shown, false)};
     printf("a name that isn't there: %s\n", lang_ty_sentence(store(&host, node, 2, &named)));

@@ -1,9 +1,9 @@
-//! Builds the type of a drive as inference would leave it, simplifies it and prints it. Then a node with a name that isn't
-//! in the table is refused, the name is added, and the node is stored.
+//! Builds the type of a drive as inference would leave it, simplifies it and prints it, and holds two fixes against it. Then a
+//! node with a name that isn't in the table is refused, the name is added, and the node is stored.
 //!
 //!     cargo run --example drive
 
-use coombtray::{AttrSetTy, Field, Names, OutputTy, PrimitiveTy, Refusal, TyRef, TypeArena};
+use coombtray::{AttrSetTy, Field, Names, OutputTy, PrimitiveTy, Refusal, TyRef, TypeArena, Value};
 
 /// What a fix holds: an angle may be missing, and each has a variable that inference left beside its type.
 fn fix(arena: &mut TypeArena) -> Result<TyRef, Refusal> {
@@ -38,6 +38,16 @@ fn drive(arena: &mut TypeArena) -> Result<TyRef, Refusal> {
     })
 }
 
+/// Whether a set of these fields is a fix that the drive takes.
+fn takes(arena: &TypeArena, ty: TyRef, fields: &[(&str, Value)]) -> Result<bool, Refusal> {
+    let OutputTy::Lambda { param, .. } = arena.get(ty)? else {
+        unreachable!("a drive is a function")
+    };
+    let fields = fields.iter().cloned();
+    let fix = Value::Set(fields.map(|(name, value)| (name.into(), value)).collect());
+    arena.fits(param, &fix)
+}
+
 fn main() -> Result<(), Refusal> {
     let mut arena = TypeArena::new(Names::new(["roll", "pitch", "chainage", "jacks", "log"])?);
     let given = drive(&mut arena)?;
@@ -47,6 +57,12 @@ fn main() -> Result<(), Refusal> {
     println!("passes: {}", simplified.passes);
     let shown = arena.normalize_vars(simplified.root)?;
     println!("shown:  {}", arena.display(shown)?);
+
+    let chainage = ("chainage", Value::Float(41.5));
+    let both = [chainage.clone(), ("roll", Value::Null)];
+    println!("takes chainage and roll: {}", takes(&arena, shown, &both)?);
+    let alone = [chainage];
+    println!("takes chainage alone: {}", takes(&arena, shown, &alone)?);
 
     let named = OutputTy::Named("steering".into(), shown);
     match arena.intern(named.clone()) {

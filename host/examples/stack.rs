@@ -5,12 +5,13 @@
 
 use std::env;
 use std::hint::black_box;
+use std::mem::forget;
 use std::process::{Command, Stdio};
 use std::thread;
 
 use coombtray::{
-    convert_sheet, import_from_arena, sheet_line, AttrSetTy, Field, Names, OutputTy, PrimitiveTy,
-    TyRef, TypeArena,
+    convert_sheet, ffi, import_from_arena, sheet_line, AttrSetTy, Field, Names, OutputTy,
+    PrimitiveTy, TyRef, TypeArena, Value,
 };
 
 /// Six nodes are left free, so that a call can rebuild some nodes at the bottom before there is no more room.
@@ -63,8 +64,28 @@ const CHAINS: [(&str, Step); 10] = [
     ("negs", OutputTy::Neg),
 ];
 
+/// Holds the deepest fixes, of lists and of sets, against the type with any in place of its variable.
+fn fits(arena: &mut TypeArena, root: TyRef) -> bool {
+    let nodes = arena.nodes().map(|node| match node {
+        OutputTy::TyVar(_) => OutputTy::Top,
+        node => node,
+    });
+    let arena = TypeArena::from_nodes(arena.names().clone(), nodes).expect("a sound arena");
+    let around: [fn(Value) -> Value; 2] = [
+        |inner| Value::List(vec![inner]),
+        |inner| Value::Set([(NAME.to_string(), inner)].into()),
+    ];
+    around.iter().all(|around| {
+        let fix = (1..ffi::VALUES).fold(Value::Int(0), |inner, _| around(inner));
+        let answered = arena.fits(root, &fix).is_ok();
+        // To drop it is a recursion of Rust's own.
+        forget(fix);
+        answered
+    })
+}
+
 /// A refusal by 7 counts as well: it comes after the recursion is at its deepest.
-const OPERATIONS: [(&str, Operation); 23] = [
+const OPERATIONS: [(&str, Operation); 24] = [
     ("find", |a, _| a.names().find(NAME).is_ok()),
     ("intern", |a, r| a.intern(OutputTy::List(r)).is_ok()),
     ("get", |a, r| a.get(r).is_ok()),
@@ -83,6 +104,7 @@ const OPERATIONS: [(&str, Operation); 23] = [
     }),
     ("free_type_vars", |a, r| a.free_type_vars(r).is_ok()),
     ("structurally_eq", |a, r| a.structurally_eq(r, a, r).is_ok()),
+    ("fits", fits),
     ("display", |a, r| a.display(r).is_ok()),
     ("display_nix", |a, r| a.display_nix(r).is_ok()),
     ("simplify", |a, r| a.simplify(r).is_ok()),

@@ -4,7 +4,7 @@ use std::fmt;
 use crate::ffi;
 use crate::memory::{Change, Memory, Question, Writing};
 use crate::words::{self, Known};
-use crate::{Names, OutputTy, Refusal, TyRef};
+use crate::{value, Names, OutputTy, Refusal, TyRef, Value};
 
 /// The nodes of types, each stored once, under the names of one table.
 ///
@@ -229,6 +229,27 @@ impl TypeArena {
     ) -> Result<bool, Refusal> {
         let (root, other_root) = (ty.into_raw(), other_ty.into_raw());
         self.memory.structurally_eq(root, &other.memory, other_root)
+    }
+
+    /// Whether a fix fits the type; docs/HOST.md says what fits. 6; 13: the fix has over 1,024 values, itself and all that are
+    /// within it, or a field whose name isn't in the arena's table; 14: the type has a variable.
+    ///
+    /// ```
+    /// use coombtray::{AttrSetTy, Names, OutputTy, PrimitiveTy, TypeArena, Value};
+    ///
+    /// let mut arena = TypeArena::new(Names::new(["roll"])?);
+    /// let number = arena.intern(OutputTy::Primitive(PrimitiveTy::Number))?;
+    /// let attrs = AttrSetTy::from_internal([("roll", number)], false);
+    /// let ty = arena.intern(OutputTy::AttrSet(attrs))?;
+    /// let fix = |roll| Value::Set([("roll".to_string(), roll)].into());
+    /// assert_eq!(arena.fits(ty, &fix(Value::Float(0.25))), Ok(true));
+    /// assert_eq!(arena.fits(ty, &fix(Value::Null)), Ok(false));
+    /// # Ok::<(), coombtray::Refusal>(())
+    /// ```
+    pub fn fits(&self, ty: TyRef, fix: &Value) -> Result<bool, Refusal> {
+        // A fix that can't be written is lent as no words, which the library refuses by 13 in its place, after 6.
+        let words = value::encode(self.names(), &self.known, fix).unwrap_or_default();
+        self.memory.fits(ty.into_raw(), &words)
     }
 
     fn text(&self, writing: Writing, ty: TyRef) -> Result<String, Refusal> {

@@ -1,13 +1,15 @@
 //! The calls of the static library, one to one with `lang_ty.h`. docs/HOST.md says what each asks of its pointers and
 //! leaves in memory; the rest of this crate needs nothing of this module from its user.
 
-/// The most names and bytes of a table, words and starts of an arena, and bytes of the text of a type and of a sheet.
+/// The most names and bytes of a table, words and starts of an arena, bytes of the text of a type and of a sheet, and values
+/// of a fix.
 pub const NAMES: usize = 4_096;
 pub const TABLE: usize = 65_536;
 pub const WORDS: usize = 16_384;
 pub const STARTS: usize = 4_096;
 pub const TEXT: usize = 65_536;
 pub const SHEET: usize = 65_536;
+pub const VALUES: usize = 1_024;
 /// How much is lent, no more and no less, where no length is passed.
 pub const VARS: usize = 4_096;
 pub const TYVAR_NAME: usize = 11;
@@ -172,6 +174,21 @@ extern "C" {
         right_used: usize,
         right_root: u32,
         is: *mut u32,
+    ) -> u32;
+
+    pub fn lang_ty_fits(
+        table: *const u8,
+        table_len: usize,
+        words: *const u32,
+        words_len: usize,
+        starts: *const u32,
+        starts_len: usize,
+        nodes: usize,
+        used: usize,
+        root: u32,
+        fix: *const u32,
+        fix_len: usize,
+        answer: *mut u32,
     ) -> u32;
 
     pub fn lang_ty_display(

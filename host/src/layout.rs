@@ -1,5 +1,5 @@
-//! The words of a node, bit by bit, as docs/HOST.md has them under "Words" and `lang_ty.h` in C. Numbers must fit their bits;
-//! whoever writes a word looks at that first.
+//! The words of a node and of a value, bit by bit, as docs/HOST.md has them under "Words" and `lang_ty.h` in C. Numbers must fit
+//! their bits; whoever writes a word looks at that first.
 
 /// The kinds of nodes, under the Rust's names.
 pub const BOTTOM: u32 = 0;
@@ -14,6 +14,16 @@ pub const INTERSECTION: u32 = 8;
 pub const NAMED: u32 = 9;
 pub const NEG: u32 = 10;
 
+/// The kinds of values.
+pub const VALUE_NULL: u32 = 0;
+pub const VALUE_BOOL: u32 = 1;
+pub const VALUE_INT: u32 = 2;
+pub const VALUE_FLOAT: u32 = 3;
+pub const VALUE_STRING: u32 = 4;
+pub const VALUE_PATH: u32 = 5;
+pub const VALUE_LIST: u32 = 6;
+pub const VALUE_SET: u32 = 7;
+
 /// The most fields or members of a node.
 pub const MOST: usize = 64;
 
@@ -25,7 +35,7 @@ pub const OPTIONAL: u32 = 1 << 31;
 const NAME_AT: u32 = 15;
 const NAME: u32 = 0xffff << NAME_AT;
 
-/// The head of a node with so many words after it.
+/// The head of a node or a value with so many words after it.
 pub fn head(kind: u32, count: usize) -> u32 {
     kind << 28 | count as u32
 }
@@ -63,7 +73,7 @@ pub fn with_name(field: u32, name: u32) -> u32 {
     field & !NAME | name << NAME_AT
 }
 
-/// The number of the node in a child's or a field's word.
+/// The number of the node or the value in a child's or a field's word.
 pub fn child(word: u32) -> u32 {
     word & 0xfff
 }

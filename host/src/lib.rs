@@ -16,7 +16,7 @@
 //! # Ok::<(), coombtray::Refusal>(())
 //! ```
 //!
-//! This crate isn't proved. It owns the memory, writes nodes as words and reads them back, and has the questions of
+//! This crate isn't proved. It owns the memory, writes nodes and values as words, reads nodes back, and has the questions of
 //! [`PrimitiveTy`]; every other answer is the library's.
 
 #![deny(unsafe_op_in_unsafe_fn)]
@@ -30,6 +30,7 @@ mod refusal;
 mod stack;
 mod texts;
 mod types;
+mod value;
 mod words;
 
 pub use arena::{import_from_arena, Simplified, TypeArena};
@@ -38,3 +39,4 @@ pub use refusal::Refusal;
 pub use stack::{on_large_stack, STACK};
 pub use texts::{compare_names, convert_sheet, sheet_line, tyvar_name};
 pub use types::{AttrSetTy, Field, OutputTy, PrimitiveTy, TyRef};
+pub use value::Value;

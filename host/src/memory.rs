@@ -410,6 +410,30 @@ impl Memory {
         Refusal::judge(answer).map(|()| is == 1)
     }
 
+    /// Whether the fix of these words fits the root's type.
+    pub fn fits(&self, root: u32, fix: &[u32]) -> Reply<bool> {
+        let table = self.names.table();
+        let mut is = 0;
+        // SAFETY: see the head of this file.
+        let answer = unsafe {
+            ffi::lang_ty_fits(
+                table.as_ptr(),
+                table.len(),
+                self.words.as_ptr(),
+                self.words.len(),
+                self.starts.as_ptr(),
+                self.starts.len(),
+                self.nodes,
+                self.used,
+                root,
+                fix.as_ptr(),
+                fix.len(),
+                &mut is,
+            )
+        };
+        Refusal::judge(answer).map(|()| is == 1)
+    }
+
     /// How many bytes were written.
     pub fn write(&self, writing: Writing, root: u32, bytes: &mut [u8]) -> Reply<usize> {
         let call = match writing {

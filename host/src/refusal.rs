@@ -1,7 +1,7 @@
 use std::error::Error;
 use std::fmt;
 
-/// A call that was refused: document 01's number, 1 to 10, or document 02's, 11 or 12. It displays as the number and a sentence
+/// A call that was refused: document 01's number, 1 to 10, or document 02's, 11 to 14. It displays as the number and a sentence
 /// that says who caused it.
 #[derive(Debug, Clone, Copy, PartialEq, Eq)]
 pub struct Refusal {
@@ -50,7 +50,9 @@ impl fmt::Display for Refusal {
             10 => "the sender of the sheet: it ends early, goes on, is too long or repeats a node",
             11 => "the sender of the old sheet: the rules of old sheets refuse it before simplification",
             12 => "the author of the call: a name of the type isn't in the target's table",
-            _ => unreachable!("the library answers 0 to 12"),
+            13 => "the author of the fix: it has no value or over 1,024, or its words break the layout",
+            14 => "the author of the call: the type has a variable",
+            _ => unreachable!("the library answers 0 to 14"),
         };
         write!(f, "refused {}, caused by {caused}", self.number)
     }

@@ -26,8 +26,12 @@ fn number(ty: TyRef) -> Result<u32, Refusal> {
 pub(crate) struct Known(HashMap<String, u32>);
 
 impl Known {
-    fn number(&mut self, names: &Names, name: &str) -> Result<u32, Refusal> {
-        if let Some(&number) = self.0.get(name) {
+    pub fn get(&self, name: &str) -> Option<u32> {
+        self.0.get(name).copied()
+    }
+
+    pub fn number(&mut self, names: &Names, name: &str) -> Result<u32, Refusal> {
+        if let Some(number) = self.get(name) {
             return Ok(number);
         }
         let number = names.find(name).map_err(|_| Refusal::CHILD)?;

@@ -5,6 +5,7 @@ use std::process::{Command, Stdio};
 
 use coombtray::{
     import_from_arena, on_large_stack, AttrSetTy, Names, OutputTy, PrimitiveTy, TyRef, TypeArena,
+    Value,
 };
 
 type Step = fn(TyRef) -> OutputTy;
@@ -13,8 +14,13 @@ const NODES: usize = 4_096;
 
 /// All 4,096 nodes: a, int, and steps over a.
 fn chain(step: Step) -> (TypeArena, TyRef) {
+    chain_over(OutputTy::TyVar(0), step)
+}
+
+/// The same over another node.
+fn chain_over(bottom: OutputTy, step: Step) -> (TypeArena, TyRef) {
     let mut nodes = vec![
-        OutputTy::TyVar(0),
+        bottom,
         OutputTy::Primitive(PrimitiveTy::Int),
         step(TyRef::from_raw(0)),
     ];
@@ -54,6 +60,7 @@ fn every_operation() {
             assert!(text.len() >= NODES - 1);
             assert_eq!(t.display_nix(root).as_ref(), Ok(&text), "a plain name");
             assert_eq!(t.free_type_vars(root), Ok(vec![0]));
+            assert_eq!(t.fits(root, &Value::Null).unwrap_err().number(), 14);
             assert!(t.has_type_vars(root).unwrap());
             assert!(t.needs_var_normalization(root).unwrap());
             assert!(t.contains_bare_tyvar(root).unwrap());
@@ -73,6 +80,27 @@ fn every_operation() {
             let _ = t.normalize_set_ops(root);
             let _ = t.simplify(root);
             assert_eq!(t.display(root), Ok(text));
+        });
+    }
+}
+
+#[test]
+fn the_deepest_fix() {
+    let lists = (1..1_024).fold(Value::List(vec![]), |inner, _| Value::List(vec![inner]));
+    // Of each chain over any: whether it takes an int, and whether it takes the lists.
+    let taken = [
+        (false, true),
+        (false, false),
+        (true, true),
+        (true, false),
+        (false, false),
+        (true, true),
+    ];
+    for (step, (int, deep)) in CHAINS.into_iter().zip(taken) {
+        on_large_stack(|| {
+            let (t, root) = chain_over(OutputTy::Top, step);
+            assert_eq!(t.fits(root, &Value::Int(0)), Ok(int));
+            assert_eq!(t.fits(root, &lists), Ok(deep));
         });
     }
 }

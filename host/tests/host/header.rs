@@ -142,7 +142,7 @@ fn in_source() -> Declared {
 #[test]
 fn the_same_everywhere() {
     let source = in_source();
-    assert_eq!(source.len(), 26);
+    assert_eq!(source.len(), 27);
     assert_eq!(in_header(&read("lang_ty.h")), source);
     assert_eq!(in_ffi(&read("src/ffi.rs")), source);
 }
@@ -157,6 +157,7 @@ fn the_same_constants() {
         ("LANG_TY_STARTS", ffi::STARTS),
         ("LANG_TY_TEXT", ffi::TEXT),
         ("LANG_TY_SHEET", ffi::SHEET),
+        ("LANG_TY_VALUES", ffi::VALUES),
         ("LANG_TY_LESS", ffi::LESS as usize),
         ("LANG_TY_EQUAL", ffi::EQUAL as usize),
         ("LANG_TY_GREATER", ffi::GREATER as usize),

@@ -17,9 +17,9 @@ pub fn at(number: u32) -> TyRef {
 /// Lent words and starts with their counters.
 #[derive(Clone, PartialEq, Debug)]
 pub struct Lent {
-    words: Vec<u32>,
-    starts: Vec<u32>,
-    nodes: usize,
+    pub words: Vec<u32>,
+    pub starts: Vec<u32>,
+    pub nodes: usize,
     pub used: usize,
 }
 

@@ -29,7 +29,7 @@ fn names_of(node: &OutputTy) -> Vec<&str> {
 }
 
 /// The node's children from left to right, to be read and written.
-fn children(node: &mut OutputTy) -> Vec<&mut TyRef> {
+pub fn children(node: &mut OutputTy) -> Vec<&mut TyRef> {
     match node {
         OutputTy::List(inner) | OutputTy::Neg(inner) | OutputTy::Named(_, inner) => vec![inner],
         OutputTy::Lambda { param, body } => vec![param, body],
@@ -108,11 +108,11 @@ impl Simple<'_> {
 
 const TEXTS: [&str; 8] = ["a", "ab", "b", "p", "pitch", "roll", "roll angle", "~"];
 
-fn one_of<T: Clone>(random: &mut Random, items: &[T]) -> T {
+pub fn one_of<T: Clone>(random: &mut Random, items: &[T]) -> T {
     items[random.below(items.len() as u32) as usize].clone()
 }
 
-fn some_names(random: &mut Random) -> BTreeSet<String> {
+pub fn some_names(random: &mut Random) -> BTreeSet<String> {
     let texts = TEXTS.iter().filter(|_| random.below(3) > 0);
     texts.map(|text| text.to_string()).collect()
 }
@@ -143,7 +143,7 @@ fn any_set(random: &mut Random, names: &[String], there: u32) -> AttrSetTy {
 }
 
 /// A node over so many others, of every kind.
-fn any_node(random: &mut Random, names: &[String], there: u32) -> OutputTy {
+pub fn any_node(random: &mut Random, names: &[String], there: u32) -> OutputTy {
     let leaf = there == 0 || random.below(5) == 0;
     let named = if names.is_empty() { 6 } else { 9 };
     match random.below(if leaf { 3 } else { named }) {
@@ -186,7 +186,7 @@ fn any_nodes(
     nodes
 }
 
-fn arena(names: &BTreeSet<String>, nodes: &[OutputTy]) -> TypeArena {
+pub fn arena(names: &BTreeSet<String>, nodes: &[OutputTy]) -> TypeArena {
     TypeArena::from_nodes(Names::new(names).unwrap(), nodes.to_vec()).unwrap()
 }
 

@@ -5,6 +5,8 @@ mod build;
 mod converting;
 mod deep;
 mod finding;
+mod fitting;
+mod fitting_by_hand;
 mod growth;
 mod header;
 mod importing;

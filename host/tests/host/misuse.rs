@@ -3,6 +3,7 @@
 
 use coombtray::{
     import_from_arena, AttrSetTy, Field, Names, OutputTy, PrimitiveTy, Refusal, TyRef, TypeArena,
+    Value,
 };
 
 use crate::build::untouched;
@@ -77,6 +78,23 @@ impl Random {
         imported
     }
 
+    /// A value at most so deep, with names that may be there or not, and at times with too many values.
+    fn value(&mut self, depth: u32) -> Value {
+        let count = if depth == 0 { 0 } else { self.below(4) };
+        match self.below(8) {
+            0 => Value::Null,
+            1 => Value::Int(i64::MIN),
+            2 => Value::Float(f64::NAN),
+            3 => Value::String("é".into()),
+            4 => Value::List(vec![Value::Null; self.below(2_000) as usize]),
+            5 => Value::List((0..count).map(|_| self.value(depth - 1)).collect()),
+            _ => {
+                let fields = (0..count).map(|_| (self.name(), self.value(depth - 1)));
+                Value::Set(fields.collect())
+            }
+        }
+    }
+
     /// A call, or none; whether it was refused.
     fn call(&mut self, t: &mut TypeArena) -> Result<(), Refusal> {
         let (ty, other) = (self.ty(t), self.ty(t));
@@ -95,6 +113,7 @@ impl Random {
             11 => t.add_names(["a", "z"]),
             12 => t.display_nix(ty).map(|_| ()),
             13..=15 => self.import(t).map(|_| ()),
+            16..=18 => t.fits(ty, &self.value(3)).map(|_| ()),
             _ => t.intern(self.node(t)).map(|_| ()),
         }
     }
@@ -120,9 +139,9 @@ fn refused(seed: u64) -> Vec<u32> {
 #[test]
 fn no_one_no_two_no_five() {
     let met: Vec<u32> = (1..=500).flat_map(refused).collect();
-    for number in 1..=12 {
+    for number in 1..=14 {
         let often = met.iter().filter(|&&one| one == number).count();
-        let can_be = [3, 4, 6, 7, 12].contains(&number);
+        let can_be = [3, 4, 6, 7, 12, 13, 14].contains(&number);
         let may_be = can_be || [8, 9].contains(&number);
         assert!(often == 0 || may_be, "{number} came {often} times");
         assert!(often > 100 || !can_be, "{number} came {often} times");

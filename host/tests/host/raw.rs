@@ -262,6 +262,26 @@ impl Lent {
         }
     }
 
+    fn fits(&mut self, fix: &[u32]) -> u32 {
+        let (table, words, starts) = (&self.table, &self.words, &self.starts);
+        unsafe {
+            ffi::lang_ty_fits(
+                table.as_ptr(),
+                table.len(),
+                words.as_ptr(),
+                words.len(),
+                starts.as_ptr(),
+                starts.len(),
+                self.nodes,
+                self.used,
+                1,
+                fix.as_ptr(),
+                fix.len(),
+                &mut self.told[0],
+            )
+        }
+    }
+
     fn structurally_eq(&mut self, other: &Lent) -> u32 {
         let (table, words, starts) = (&self.table, &self.words, &self.starts);
         unsafe {
@@ -293,7 +313,7 @@ impl Lent {
 type Call = fn(&mut Lent) -> u32;
 
 /// Every call that is lent an arena.
-const CALLS: [Call; 20] = [
+const CALLS: [Call; 21] = [
     |l| l.read(ffi::lang_ty_count_reachable),
     |l| l.read(ffi::lang_ty_unwrap_named),
     |l| l.read(ffi::lang_ty_has_type_vars),
@@ -314,6 +334,7 @@ const CALLS: [Call; 20] = [
     |l| l.structurally_eq(&sound()),
     |l| l.import(&mut sound()),
     |l| sound().import(l),
+    |l| l.fits(&[0]),
 ];
 
 /// Every call refuses this memory by the number, and leaves all of it and the results as they were.
@@ -333,7 +354,9 @@ fn all_refuse(number: u32, spoil: fn(&mut Lent)) {
 #[test]
 fn a_sound_arena_is_answered() {
     for (at, call) in CALLS.iter().enumerate() {
-        assert_eq!(call(&mut sound()), 0, "call {at}");
+        // 14: the type has a variable.
+        let answer = call(&mut sound());
+        assert!([0, 14].contains(&answer), "call {at}: {answer}");
     }
 }
 
@@ -361,9 +384,9 @@ fn a_full_table_is_answered() {
         for (at, call) in CALLS.iter().enumerate() {
             let mut lent = sound();
             lent.table.clone_from(&table);
-            // 9: the sheet of so many names has no room in the lent bytes.
+            // 9: the sheet of so many names has no room in the lent bytes; 14 as above.
             let answer = call(&mut lent);
-            assert!([0, 9].contains(&answer), "call {at}: {answer}");
+            assert!([0, 9, 14].contains(&answer), "call {at}: {answer}");
         }
     }
 }
@@ -527,6 +550,10 @@ fn which_number_comes_first() {
     assert_eq!(without_root().import(&mut bad_table), 1, "before 6");
     assert_eq!(without_root().import(&mut large), 2, "before 6");
     assert_eq!(without_root().import(&mut sound()), 6);
+    assert_eq!(bad_table.fits(&[]), 1, "before 13");
+    assert_eq!(unsound.fits(&[]), 2, "before 13");
+    assert_eq!(without_root().fits(&[]), 6, "before 13");
+    assert_eq!(sound().fits(&[]), 13, "before 14");
     unsound.words[0] = 0;
     assert_eq!(unsound.intern(&[]), 2, "before 3");
 }

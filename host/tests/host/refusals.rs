@@ -3,7 +3,7 @@
 
 use coombtray::{
     convert_sheet, import_from_arena, sheet_line, AttrSetTy, Names, OutputTy, PrimitiveTy, Refusal,
-    TyRef, TypeArena,
+    TyRef, TypeArena, Value,
 };
 
 use crate::build::*;
@@ -118,6 +118,7 @@ fn six() {
             assert_eq!(number(t.structurally_eq(root, &t, root)), 6);
             assert_eq!(number(t.display(root)), 6);
             assert_eq!(number(t.display_nix(root)), 6);
+            assert_eq!(number(t.fits(root, &Value::Null)), 6);
         }
         assert!(untouched(&t, &before));
         var(&mut t, 0);
@@ -409,8 +410,27 @@ fn twelve() {
     assert_eq!(import_from_arena(&mut target, &t, a), Ok(at(0)));
 }
 
-/// A refusal by each number, 1 to 12.
-pub fn each() -> [Refusal; 12] {
+#[test]
+fn thirteen_and_fourteen() {
+    let mut t = named(&["p"]);
+    let [a, int] = [var(&mut t, 0), int(&mut t)];
+    let ty = list(&mut t, a);
+    let before = t.clone();
+    let lacking = Value::Set([("q".to_string(), Value::Null)].into());
+    let many = Value::List(vec![Value::Null; 1_024]);
+    for fix in [lacking, many] {
+        assert_eq!(number(t.fits(int, &fix)), 13);
+        assert_eq!(number(t.fits(ty, &fix)), 13, "before 14");
+        assert_eq!(number(t.fits(at(3), &fix)), 6, "before 13");
+    }
+    assert_eq!(number(t.fits(ty, &Value::Null)), 14);
+    assert_eq!(number(t.fits(a, &Value::Null)), 14);
+    assert_eq!(t.fits(int, &Value::Null), Ok(false));
+    assert!(untouched(&t, &before));
+}
+
+/// A refusal by each number, 1 to 14.
+pub fn each() -> [Refusal; 14] {
     let mut t = named(&["p", "q"]);
     let vars: Vec<TyRef> = (0..65).map(|index| var(&mut t, index)).collect();
     let members = [union(&mut t, &vars[..64]), vars[64]];
@@ -435,12 +455,15 @@ pub fn each() -> [Refusal; 12] {
         sheet_line(&[]).unwrap_err(),
         convert_sheet(&mut []).unwrap_err(),
         import_from_arena(&mut empty(), &t, root).unwrap_err(),
+        t.fits(root, &Value::List(vec![Value::Null; 1_024]))
+            .unwrap_err(),
+        t.fits(root, &Value::Null).unwrap_err(),
     ]
 }
 
 #[test]
 fn numbers() {
-    assert!(each().map(Refusal::number).into_iter().eq(1..=12));
+    assert!(each().map(Refusal::number).into_iter().eq(1..=14));
     let text = "refused 1, caused by the host that lends memory: the name table breaks a rule";
     assert_eq!(each()[0].to_string(), text);
 }

@@ -2,7 +2,7 @@
 
 use std::thread;
 
-use coombtray::{import_from_arena, Names, OutputTy, TypeArena};
+use coombtray::{import_from_arena, Names, OutputTy, TypeArena, Value};
 
 use crate::build::*;
 
@@ -12,6 +12,7 @@ fn is_send_and_sync<T: Send + Sync>() {}
 fn thousand_calls(seed: u32) -> Vec<String> {
     is_send_and_sync::<TypeArena>();
     is_send_and_sync::<Names>();
+    is_send_and_sync::<Value>();
     let mut said = Vec::new();
     for round in 0..125 {
         let mut t = named(&["p", "q"]);
@@ -42,11 +43,15 @@ fn one_arena_read_by_many() {
     let mut t = empty();
     let a = var(&mut t, 0);
     let root = put(&mut t, OutputTy::List(a));
+    let any = put(&mut t, OutputTy::Top);
+    let anys = list(&mut t, any);
+    let fix = Value::List(vec![Value::Null; 9]);
     thread::scope(|scope| {
         for _ in 0..4 {
             scope.spawn(|| {
                 for _ in 0..1_000 {
                     assert_eq!(t.display(root), Ok("[a]".into()));
+                    assert_eq!(t.fits(anys, &fix), Ok(true));
                 }
             });
         }
