@@ -14,6 +14,7 @@ use reference::{Reply, NODES, TEXT, WORDS};
 
 use crate::build::{self, names, names_by, names_of_bytes, printable, Build};
 use crate::damage;
+use crate::fixes;
 use crate::imports;
 use crate::lookup;
 use crate::random::Random;
@@ -45,6 +46,7 @@ pub fn case(op: u8, random: &mut Random) -> Case {
         24 => Case::Convert(sheet(OLD, NEW, random)),
         25 => lookup::find_name(random),
         26 => imports::import(random),
+        27 => fixes::fits(random),
         _ => panic!("no operation {op}"),
     }
 }

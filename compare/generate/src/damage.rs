@@ -1,4 +1,4 @@
-//! Faults: of a table, of lent memory, of a node, of a sheet. Calls apply one or several, so that
+//! Faults: of a table, of lent memory, of a node, of a sheet, of a fix. Calls apply one or several, so that
 //! faults compete.
 
 use reference::case::Host;
@@ -177,4 +177,40 @@ pub fn sheet(sheet: &mut Vec<u8>, random: &mut Random) {
         _ if random.percent(5) => sheet.resize(65_535 + random.below(3), 0),
         _ => sheet.extend_from_within(at..),
     }
+}
+
+/// Breaks the layout of a fix in one place, or nearly: more often in a child or a field than in a head.
+pub fn fix(words: &mut Vec<u32>, names: usize, random: &mut Random) {
+    let bodies = bodies(words);
+    let (any, other) = (random.below(words.len()), random.below(words.len()));
+    let at = match !bodies.is_empty() && random.percent(70) {
+        true => random.pick(&bodies),
+        false => any,
+    };
+    match random.below(11) {
+        0 => words.truncate(at),
+        1 => words.push(random.word()),
+        2 => words[at] = words[at].wrapping_add(1),
+        3 => words[at] = words[at].wrapping_sub(1),
+        4 => words[at] |= 1 << random.pick(&[12, 13, 14, 16, 27, 31]),
+        5 => words[at] = words[at] & !0xfff | random.below(words.len()) as u32 & 0xfff,
+        6 => words[at] = words[at] & !NEW.name() | named(NEW, names),
+        // The name before it once more.
+        7 => words[at] = words[at] & 0xfff | words[at.saturating_sub(1)] & NEW.name(),
+        8 => words.swap(at, other),
+        9 => words.insert(at, words[other]),
+        _ => words[at] ^= 1 << random.below(32),
+    }
+}
+
+/// Where the children and fields of a fix's values stand.
+fn bodies(words: &[u32]) -> Vec<usize> {
+    let mut all = Vec::new();
+    let mut head = 0;
+    while let Some(word) = words.get(head) {
+        let next = head + 1 + (word & 0xffff) as usize;
+        all.extend(head + 1..next.min(words.len()));
+        head = next;
+    }
+    all
 }

@@ -12,6 +12,7 @@ use reference::{MEMBERS, NODES, TEXT, WORDS};
 
 use crate::build::{table, Build};
 use crate::cases::Print;
+use crate::fixed_fixes;
 use crate::fixed_imports;
 use crate::shapes::Shape;
 use crate::spelled::{long, FREE, LENGTHS};
@@ -53,6 +54,7 @@ pub fn cases(op: u8) -> Vec<Case> {
         24 => sheets(OLD, Case::Convert),
         25 => lookups(),
         26 => fixed_imports::cases(),
+        27 => fixed_fixes::cases(),
         _ => panic!("no operation {op}"),
     }
 }

@@ -26,7 +26,7 @@ fn empty(names: &[Vec<u8>]) -> Host {
     Build::named(names.to_vec()).host(WORDS, NODES)
 }
 
-fn exact(arena: &Build) -> Host {
+pub fn exact(arena: &Build) -> Host {
     arena.host(arena.words, arena.nodes.len())
 }
 

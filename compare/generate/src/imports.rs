@@ -6,7 +6,6 @@ use std::collections::BTreeSet;
 use reference::calls;
 use reference::case::{Case, Host};
 use reference::layout::NEW;
-use reference::node::Node;
 use reference::table::{LENGTH, TABLE};
 use reference::{NODES, WORDS};
 
@@ -66,21 +65,10 @@ fn named(random: &mut Random) -> Shape {
     Shape { arena, root }
 }
 
-/// The nodes that are reachable from a root, in the order of their numbers.
-fn reachable(nodes: &[Node], root: u32) -> BTreeSet<u32> {
-    let (mut all, mut left) = (BTreeSet::new(), vec![root]);
-    while let Some(number) = left.pop() {
-        if all.insert(number) {
-            left.extend(nodes[number as usize].children());
-        }
-    }
-    all
-}
-
 /// The names of the target's table, by those of the source's: the same, more, only the ones that the type has (and so without
 /// those of other nodes), all of them but one, some, none, or one that is like another but for its end.
 fn table(arena: &Build, at: u32, random: &mut Random) -> Vec<Vec<u8>> {
-    let own = reachable(&arena.nodes, at).into_iter();
+    let own = calls::reached(&arena.nodes, at).into_iter();
     let own = own.flat_map(|number| arena.nodes[number as usize].names());
     let own: BTreeSet<Vec<u8>> = own.map(|n| arena.names[usize::from(n)].clone()).collect();
     let all: BTreeSet<Vec<u8>> = arena.names.iter().cloned().collect();
@@ -199,7 +187,7 @@ fn copy(arena: &Build, at: u32, target: &mut Build, other: Option<u32>, random: 
     let is_here = |&name: &u16| places[usize::from(name)].is_some();
     let known: Vec<u16> = places.iter().map(|p| p.unwrap_or(0) as u16).collect();
     let mut numbers = vec![None; arena.nodes.len()];
-    for number in reachable(&arena.nodes, at) {
+    for number in calls::reached(&arena.nodes, at) {
         let node = &arena.nodes[number as usize];
         let children = node.children().into_iter().map(|c| numbers[c as usize]);
         let Some(children) = children.collect::<Option<Vec<u32>>>() else {

@@ -29,6 +29,7 @@ pub fn cases(op: u8) -> Vec<Case> {
         24 => sheets(OLD, Case::Convert),
         25 => lookups(),
         26 => imports(),
+        27 => fixes(),
         _ => panic!("no operation {op}"),
     }
 }
@@ -93,16 +94,17 @@ fn composites(nodes: u32, with_sets: bool) -> Vec<Node> {
     if with_sets {
         all.push(Node::Named(0, 0));
         all.push(Node::Named(1, 0));
-        all.extend(sets());
+        all.extend(sets([0, 0], &[None, Some(0), Some(1)]));
     }
     all
 }
 
-fn sets() -> Vec<Node> {
+/// All sets of up to two names, each with its child, with these dynamic parts.
+pub fn sets(children: [u32; 2], dynamics: &[Option<u32>]) -> Vec<Node> {
     let field = |name: u16, optional| Field {
         optional,
         name,
-        child: 0,
+        child: children[usize::from(name)],
     };
     let mut all = Vec::new();
     for fields in 0..9 {
@@ -111,9 +113,9 @@ fn sets() -> Vec<Node> {
             .into_iter()
             .filter(|(_, how)| *how > 0);
         let fields: Vec<Field> = present.map(|(name, how)| field(name, how == 2)).collect();
-        for dynamic in [None, Some(0), Some(1)] {
-            all.push(Node::AttrSet(fields.clone(), dynamic, false));
-            all.push(Node::AttrSet(fields.clone(), dynamic, true));
+        for dynamic in dynamics {
+            all.push(Node::AttrSet(fields.clone(), *dynamic, false));
+            all.push(Node::AttrSet(fields.clone(), *dynamic, true));
         }
     }
     all
@@ -215,6 +217,29 @@ fn imports() -> Vec<Case> {
         cases.extend(all.map(|root| Case::Import(source.clone(), root, target.clone())));
     }
     cases
+}
+
+/// All fixes of up to four words out of ten, beside any, a list and a set.
+fn fixes() -> Vec<Case> {
+    let mut arena = Build::named(vec![b"x".to_vec(), b"y".to_vec()]);
+    let any = arena.put(Node::Top);
+    let int = arena.put(Node::Primitive(2));
+    let list = arena.put(Node::List(int));
+    let field = Field {
+        optional: false,
+        name: 0,
+        child: int,
+    };
+    let set = arena.put(Node::AttrSet(vec![field], Some(list), false));
+    let host = arena.host(arena.words, arena.nodes.len());
+    // Children and fields, one of them of a name that isn't there; then an int, lists and sets.
+    let bodies = [0, 1, 1 << 15, 2 << 15].into_iter();
+    let heads = [(2, 0), (6, 0), (6, 1), (6, 2), (7, 1), (7, 2)];
+    let heads = heads.map(|(kind, count)| kind << 28 | count);
+    let words: Vec<u32> = bodies.chain(heads).collect();
+    let beside =
+        |fix: Vec<u32>| [any, list, set].map(|root| Case::Fits(host.clone(), root, fix.clone()));
+    lists(&words, 4).flat_map(beside).collect()
 }
 
 fn names() -> Vec<Case> {

@@ -9,7 +9,8 @@
 //!
 //! A file has cases of operation 8 (docs/COMPARISON.md), a sheet each. The types of a file `changing` must become others by
 //! each operation that rewrites, and those alone run on them; on files `alike` and `unlike` (src/bin/alike.rs) `unwrap_named`
-//! alone does. On all three ours runs in full buffers alone.
+//! alone does, and on those of src/bin/fixes.rs, which have cases of operation 27, also `fits`. On all these ours runs in full
+//! buffers alone.
 
 mod ours;
 mod side;
@@ -19,6 +20,7 @@ use std::hint::black_box;
 use std::time::{Duration, Instant};
 use std::{env, fs};
 
+use reference::calls;
 use reference::case::{Case, Reader};
 use reference::layout::NEW;
 use reference::node::Node;
@@ -33,12 +35,30 @@ const ROUNDS: usize = 15;
 /// How long a round of one side goes on, unless one call a type takes longer.
 const ROUND: Duration = Duration::from_millis(4);
 
-/// Whether an operation runs on the types of a file of this name.
-fn runs(path: &str, operation: Operation) -> bool {
+/// Which operations run on the types of a file of this name, if these are few.
+fn few(path: &str) -> Option<fn(Operation) -> bool> {
     match path {
-        "changing" => operation.rewrites(),
-        "alike" | "unlike" => operation == Operation::UnwrapNamed,
-        _ => true,
+        "changing" => Some(Operation::rewrites),
+        "alike" | "unlike" => Some(|one| one == Operation::UnwrapNamed),
+        "drive" | "nested" | "unions" | "wide" => {
+            Some(|one| matches!(one, Operation::UnwrapNamed | Operation::Fits))
+        }
+        _ => None,
+    }
+}
+
+/// A type, and the words of a fix if the case has one.
+fn given(case: Case) -> (Sheet, Vec<u32>) {
+    match case {
+        Case::Sheet(bytes) => {
+            let sheet = sheet::read(NEW, &bytes).expect("a faulty sheet");
+            (sheet, vec![])
+        }
+        Case::Fits(host, root, fix) => {
+            let (names, nodes) = calls::read(&host).expect("a faulty arena");
+            (Sheet { names, nodes, root }, fix)
+        }
+        _ => panic!("neither a sheet nor a fix"),
     }
 }
 
@@ -53,26 +73,25 @@ struct Held {
 
 fn hold(path: &str) -> Held {
     let cases = fs::read(path).expect("no such file");
-    let operations = OPERATIONS.into_iter().filter(|one| runs(path, one.0));
+    let few = few(path);
+    let runs = few.unwrap_or(|one| one != Operation::Fits);
+    let operations = OPERATIONS.into_iter().filter(|one| runs(one.0));
     let operations: Vec<_> = operations.collect();
-    let (mut given, mut full, mut snug, mut rust) = (vec![], vec![], vec![], vec![]);
+    let (mut types, mut full, mut snug, mut rust) = (vec![], vec![], vec![], vec![]);
     for case in Reader(&cases) {
-        let Case::Sheet(bytes) = case else {
-            panic!("not a sheet");
-        };
-        let Sheet { names, nodes, root } = sheet::read(NEW, &bytes).expect("a faulty sheet");
+        let (Sheet { names, nodes, root }, fix) = given(case);
         let used: usize = nodes.iter().map(|n| n.size()).sum();
         let two = (WORDS.min(2 * used), NODES.min(2 * nodes.len()));
-        full.push(Ours::holding(&nodes, &names, root, (WORDS, NODES)));
-        if operations.len() == OPERATIONS.len() {
+        full.push(Ours::holding(&nodes, &names, root, (WORDS, NODES)).with_fix(&fix));
+        if few.is_none() {
             snug.push(Ours::holding(&nodes, &names, root, two));
         }
-        rust.push(Theirs::holding(&nodes, &names, root));
-        given.push((nodes, root));
+        rust.push(Theirs::holding(&nodes, &names, root, &fix));
+        types.push((nodes, root));
     }
     Held {
         operations,
-        given,
+        given: types,
         full,
         snug,
         rust,
@@ -159,16 +178,25 @@ fn clock() -> u64 {
     (0..100_000).map(|_| nothing()).min().unwrap_or(0)
 }
 
+/// Those on which an operation of the Rust's is measured: it has none like `fits`.
+fn of_the_rust(rust: &mut [Theirs], operation: Operation) -> &mut [Theirs] {
+    match operation {
+        Operation::Fits => &mut [],
+        _ => rust,
+    }
+}
+
 fn times(path: &str, clock: u64) {
     let mut held = hold(path);
     for (operation, name) in held.operations {
+        let rust_held = of_the_rust(&mut held.rust, operation);
         let mut full = Least::of(&mut held.full, operation);
         let mut snug = Least::of(&mut held.snug, operation);
-        let mut rust = Least::of(&mut held.rust, operation);
+        let mut rust = Least::of(rust_held, operation);
         for _ in 0..ROUNDS {
             full.round(&mut held.full, operation);
             snug.round(&mut held.snug, operation);
-            rust.round(&mut held.rust, operation);
+            rust.round(rust_held, operation);
         }
         for (which, least) in [("full", full), ("snug", snug), ("rust", rust)] {
             if !least.each.is_empty() {
@@ -205,7 +233,8 @@ fn counts(path: &str) {
     for operation in held.operations {
         count(path, "full", &mut held.full, operation);
         count(path, "snug", &mut held.snug, operation);
-        count(path, "rust", &mut held.rust, operation);
+        let rust = of_the_rust(&mut held.rust, operation.0);
+        count(path, "rust", rust, operation);
     }
 }
 

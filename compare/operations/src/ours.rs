@@ -40,6 +40,7 @@ declare! {
     lang_ty_compact(
         usize, usize, u32,
         *mut u32, usize, *mut u32, usize, *mut usize, *mut usize, *mut u32);
+    lang_ty_fits(usize, usize, u32, *const u32, usize, *mut u32);
     lang_ty_import_from_arena(
         usize, usize, u32,
         *const u8, usize, *mut u32, usize, *mut u32, usize, *mut usize, *mut usize, *mut u32);
@@ -92,6 +93,7 @@ pub struct Ours {
     vars: Vec<u32>,
     text: Vec<u8>,
     length: usize,
+    fix: Vec<u32>,
 }
 
 impl Ours {
@@ -132,6 +134,14 @@ impl Ours {
             vars: vec![0; reference::NODES],
             text: vec![0; reference::TEXT],
             length: 0,
+            fix: vec![],
+        }
+    }
+
+    pub fn with_fix(self, fix: &[u32]) -> Ours {
+        Ours {
+            fix: fix.to_vec(),
+            ..self
         }
     }
 }
@@ -194,6 +204,10 @@ impl Ours {
                 };
                 let (text, room) = (self.text.as_mut_ptr(), self.text.len());
                 ask!(self, print, text, room, &mut self.length)
+            }
+            Operation::Fits => {
+                let (fix, count) = (self.fix.as_ptr(), self.fix.len());
+                ask!(self, lang_ty_fits, fix, count, number)
             }
             Operation::Import | Operation::ImportStored => self.import(),
             _ => self.copy(),

@@ -25,11 +25,12 @@ pub enum Operation {
     NormalizeReplacingUnknown,
     NormalizeSetOps,
     Simplify,
+    Fits,
 }
 
 use Operation::*;
 
-pub const OPERATIONS: [(Operation, &str); 20] = [
+pub const OPERATIONS: [(Operation, &str); 21] = [
     (UnwrapNamed, "unwrap_named"),
     (InternStored, "intern, a stored node"),
     (InternNew, "intern, a new node"),
@@ -50,6 +51,7 @@ pub const OPERATIONS: [(Operation, &str); 20] = [
     (NormalizeReplacingUnknown, "normalize_replacing_unknown"),
     (NormalizeSetOps, "normalize_set_ops"),
     (Simplify, "simplify"),
+    (Fits, "fits"),
 ];
 
 impl Operation {

@@ -3,6 +3,7 @@
 use std::sync::Arc;
 
 use lang_ty::{import_from_arena, simplify, OutputTy, OwnedTy, TyRef, TypeArena};
+use reference::fix::{self, Value};
 use reference::node::Node;
 use reference::rust::Rust;
 
@@ -19,6 +20,7 @@ pub struct Theirs {
     node: OutputTy,
     left: OwnedTy,
     right: OwnedTy,
+    values: Vec<Value>,
 }
 
 /// What a call made; it is taken down after the measured part.
@@ -30,7 +32,7 @@ pub enum Made {
 }
 
 impl Theirs {
-    pub fn holding(nodes: &[Node], names: &[String], root: u32) -> Theirs {
+    pub fn holding(nodes: &[Node], names: &[String], root: u32, fix: &[u32]) -> Theirs {
         let first = Rust::holding(nodes, names);
         let owned = || OwnedTy::new(Arc::new(first.arena.clone()), TyRef::from_raw(root));
         Theirs {
@@ -39,6 +41,7 @@ impl Theirs {
             node: OutputTy::Top,
             left: owned(),
             right: owned(),
+            values: fix::decode(fix, names.len()).unwrap_or_default(),
             rust: first.clone(),
             twin: first.clone(),
             first,
@@ -91,6 +94,8 @@ fn rust_measured(theirs: &mut Theirs, operation: Operation) -> Made {
         Operation::NormalizeReplacingUnknown => number(arena.normalize_replacing_unknown(root)),
         Operation::NormalizeSetOps => number(arena.normalize_set_ops(root)),
         Operation::Simplify => number(simplify::simplify(arena, root)),
+        // Not the Rust's, so the reference's.
+        Operation::Fits => is(fix::fits(&theirs.given, theirs.root, &theirs.values)),
     }
 }
 

@@ -56,6 +56,7 @@ pub fn answer(case: &Case) -> Answer {
         Case::DisplayNix(host, root, room) => {
             said(calls::display_nix(host, *root, *room).map(text))
         }
+        Case::Fits(host, root, fix) => said(calls::fits(host, *root, fix).map(yes)),
     };
     Answer { line, left_out }
 }

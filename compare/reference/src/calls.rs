@@ -6,6 +6,7 @@ use std::collections::BTreeSet;
 use lang_ty::{TyRef, TypeArena};
 
 use crate::case::Host;
+use crate::fix;
 use crate::layout::NEW;
 use crate::limited::Lent;
 use crate::memory::Memory;
@@ -198,14 +199,42 @@ pub fn import_from_arena(source: &Host, root: u32, target: &Host) -> Reply<Chang
     }
 }
 
-/// The names of the nodes that are reachable from a root: a child is below its node, so one walk down meets them all.
+/// 1, 2, 6, 13, then 14. Where `normalize_set_ops` takes the type, the answer must stay the same.
+pub fn fits(host: &Host, root: u32, words: &[u32]) -> Reply<bool> {
+    let (names, nodes) = read(host)?;
+    below(root, &nodes)?;
+    let values = fix::decode(words, names.len())?;
+    let is_variable = |&number: &u32| matches!(nodes[number as usize], Node::TyVar(_));
+    if reached(&nodes, root).iter().any(is_variable) {
+        return Err(14);
+    }
+    let answer = fix::fits(&nodes, root, &values);
+    let all = Lent {
+        words: WORDS,
+        starts: NODES,
+    };
+    let (new, arena) = normalize_set_ops(&nodes, &names, root, all);
+    if arena.refused.is_none() {
+        let after = fix::fits(&arena.nodes, new, &values);
+        assert_eq!(after, answer, "normalize_set_ops changes the answer");
+    }
+    Ok(answer)
+}
+
+/// The names of the nodes that are reachable from a root.
 fn names_of(nodes: &[Node], root: u32) -> BTreeSet<u16> {
-    let mut names = BTreeSet::new();
+    let all = reached(nodes, root).into_iter();
+    all.flat_map(|number| nodes[number as usize].names())
+        .collect()
+}
+
+/// The nodes that are reachable from a root: a child is below its node, so one walk down meets them all.
+pub fn reached(nodes: &[Node], root: u32) -> BTreeSet<u32> {
+    let mut reached = BTreeSet::new();
     let mut met = BTreeSet::from([root]);
     while let Some(number) = met.pop_last() {
-        let node = &nodes[number as usize];
-        met.extend(node.children());
-        names.extend(node.names());
+        reached.insert(number);
+        met.extend(nodes[number as usize].children());
     }
-    names
+    reached
 }

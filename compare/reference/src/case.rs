@@ -3,7 +3,7 @@
 use crate::memory::Memory;
 
 /// What a host lends a call that reads: a name table and an arena.
-#[derive(Clone, Debug, Default)]
+#[derive(Clone, Debug, Default, PartialEq)]
 pub struct Host {
     pub table: Vec<u8>,
     pub memory: Memory,
@@ -34,11 +34,14 @@ pub enum Case {
     Import(Host, u32, Host),
     WriteSheet(Host, u32, u32),
     DisplayNix(Host, u32, u32),
+    /// A type, and the words of a fix.
+    Fits(Host, u32, Vec<u32>),
 }
 
 /// The numbers of the operations, all that there are.
-pub const OPS: [u8; 26] = [
+pub const OPS: [u8; 27] = [
     1, 2, 3, 4, 5, 6, 7, 8, 9, 10, 11, 12, 13, 14, 15, 16, 17, 18, 19, 20, 21, 22, 23, 24, 25, 26,
+    27,
 ];
 
 /// Cases are taken from the front.
@@ -60,15 +63,15 @@ impl<'a> Reader<'a> {
         self.number(4) as u32
     }
 
-    fn words(&mut self) -> Vec<u32> {
-        let count = self.number(2);
+    fn words(&mut self, width: usize) -> Vec<u32> {
+        let count = self.number(width);
         (0..count).map(|_| self.word()).collect()
     }
 
     /// Words of which the last ones, all zero, are left out.
     fn lent(&mut self) -> Vec<u32> {
         let count = self.number(2);
-        let mut words = self.words();
+        let mut words = self.words(2);
         assert!(words.len() <= count, "more words follow than are lent");
         words.resize(count, 0);
         words
@@ -106,7 +109,7 @@ impl Iterator for Reader<'_> {
         }
         Some(match self.number(1) {
             1 => Case::TyvarName(self.word()),
-            2 => Case::Intern(self.host(), self.words()),
+            2 => Case::Intern(self.host(), self.words(2)),
             3 => Case::Order(self.host(), self.word(), self.word()),
             4 => Case::Simplify(self.host(), self.word()),
             5 => Case::Display(self.host(), self.word(), self.word()),
@@ -122,6 +125,7 @@ impl Iterator for Reader<'_> {
             24 => Case::Convert(self.text(4)),
             25 => Case::FindName(self.text(4), self.text(4)),
             26 => Case::Import(self.host(), self.word(), self.host()),
+            27 => Case::Fits(self.host(), self.word(), self.words(4)),
             op => panic!("no operation {op}"),
         })
     }
@@ -141,14 +145,14 @@ impl Writer {
         self.number(word as usize, 4)
     }
 
-    fn words(&mut self, words: &[u32]) {
-        self.number(words.len(), 2);
+    fn words(&mut self, words: &[u32], width: usize) {
+        self.number(words.len(), width);
         words.iter().for_each(|&w| self.word(w));
     }
 
     fn lent(&mut self, words: &[u32]) {
         self.number(words.len(), 2);
-        self.words(without_zeros(words));
+        self.words(without_zeros(words), 2);
     }
 
     fn text(&mut self, text: &[u8], width: usize) {
@@ -199,6 +203,7 @@ impl Case {
             Case::Convert(_) => 24,
             Case::FindName(..) => 25,
             Case::Import(..) => 26,
+            Case::Fits(..) => 27,
         }
     }
 
@@ -208,7 +213,7 @@ impl Case {
             Case::TyvarName(index) => to.word(*index),
             Case::Intern(host, node) => {
                 to.host(host);
-                to.words(node);
+                to.words(node, 2);
             }
             Case::Order(host, first, second)
             | Case::Display(host, first, second)
@@ -237,6 +242,11 @@ impl Case {
                 to.host(source);
                 to.word(*root);
                 to.host(target);
+            }
+            Case::Fits(host, root, fix) => {
+                to.host(host);
+                to.word(*root);
+                to.words(fix, 4);
             }
             Case::NameAt(table, number) => {
                 to.text(table, 4);

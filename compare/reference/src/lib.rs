@@ -5,6 +5,7 @@ pub mod answer;
 pub mod calls;
 pub mod case;
 pub mod deep;
+pub mod fix;
 pub mod layout;
 pub mod limited;
 pub mod memory;

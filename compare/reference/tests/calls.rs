@@ -239,3 +239,26 @@ fn convert() {
     let refused = line(sheet(&[0, 0, 0, 69, 0, 68], &words));
     assert!(refused.starts_with("ok ") && refused.ends_with(" refused 8"));
 }
+
+/// Each has the fault of the one before, and one that comes before it.
+#[test]
+fn fits() {
+    let nodes = [Node::TyVar(7), Node::Primitive(2), Node::List(0)];
+    let arena = || host(&nodes, 8, 4);
+    let fits = |host, root, fix: &[u32]| line(Case::Fits(host, root, fix.to_vec()));
+    let (int, list) = ([0x2000_0000], [0x6000_0000]);
+    assert_eq!(fits(arena(), 1, &int), "yes");
+    assert_eq!(fits(arena(), 1, &list), "no");
+    assert_eq!(fits(arena(), 0, &int), "refused 14");
+    assert_eq!(fits(arena(), 2, &int), "refused 14");
+    assert_eq!(fits(arena(), 2, &[]), "refused 13");
+    assert_eq!(fits(arena(), 1, &[0x6000_0001, 0]), "refused 13");
+    assert_eq!(fits(arena(), 3, &[]), "refused 6");
+    let unsound = faulty(arena(), false, true);
+    assert_eq!(fits(unsound, 9, &[]), "refused 2");
+    let both = faulty(arena(), true, true);
+    assert_eq!(fits(both, 9, &[]), "refused 1");
+    // 65,537 words: more than the other cases can say.
+    let long = [vec![int[0], 0x6000_ffff], vec![0; 65_535]].concat();
+    assert_eq!(fits(arena(), 1, &long), "no");
+}
