@@ -36,7 +36,7 @@ use Rattle.lang_ty.proofs.Copies.{lent-cases, rooted-cases, reply-not, 
 use Rattle.lang_ty.proofs.ImportedTrees.{complete-numbered, Ran, runs, is-there}
 
 -- ---- memory has room for the arena that it holds
-roomy : {table : ℕ} {w s : List ℕ} {c : Counters} {a : Arena} → Holds table w s c a → has-room (length w) (length s) a ≡ true
+pub roomy : {table : ℕ} {w s : List ℕ} {c : Counters} {a : Arena} → Holds table w s c a → has-room (length w) (length s) a ≡ true
 unfolding has-room
 roomy {w = w} {s = s} {a = a} H = both (le-leb (length (flat a)) (length w) (omega (arith, word-room H, H .total))) (le-leb (length a) (length s) (omega (arith, start-room H, H .nodes)))
 

@@ -8,3 +8,4 @@ pub mod Imports
 pub mod Successes
 pub mod Needing
 pub mod Prints
+pub mod FitsNormalized

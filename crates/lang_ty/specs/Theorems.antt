@@ -32,6 +32,10 @@ use Rattle.sheet_converting.specs.Convert.{convert-reply}
 use Rattle.recursion.specs.Hosted.{work-reply}
 use Rattle.renumber.specs.Renumber.{normalize}
 use Rattle.set_op_lists.specs.SetOps.{normalize-set-ops}
+use Rattle.set_ops.specs.Theorems.{Normalizes}
+use Rattle.fix_values.specs.Fix.{Fix}
+use Rattle.fitting.specs.Fits.{takes}
+use Rattle.fits.specs.Fits.{fits-reply}
 use Rattle.simplify.specs.Simplify.{simplify-reply}
 use Rattle.lang_ty.specs.Needs.{needs-var-normalization}
 
@@ -113,6 +117,17 @@ pub record NeedsIsHas : Type 0 where
       → needs-var-normalization a root ≡ has-type-vars a root
   pub answer : (t w s : List ℕ) (c : Counters) (root : ℕ)
       → ask-reply needs-var-normalization t w s c root ≡ ask-reply has-type-vars t w s c root
+
+-- `normalize_set_ops` changes neither which values of a fix fit the type nor whether it has a variable; so `fits` answers after it what it
+-- would have answered before, refusals too (02, A5)
+pub record FitsNormalizes : Type 0 where
+  pub values : (words starts table : ℕ) (a : Arena) (root m : ℕ) (b : Arena) → Normalizes words starts table a root m b → (f : Fix) (v : ℕ)
+      → takes f b m v ≡ takes f a root v
+  pub variables : (words starts table : ℕ) (a : Arena) (root m : ℕ) (b : Arena) → Normalizes words starts table a root m b
+      → has-type-vars b m ≡ has-type-vars a root
+  pub answer : (t w s : List ℕ) (c : Counters) (root m : ℕ) (d : Counters) (w′ s′ : List ℕ)
+      → work-reply normalize-set-ops t w s c root ≡ reply (ok m) d w′ s′ → (ws : List ℕ)
+      → fits-reply t w′ s′ d m ws ≡ fits-reply t w s c root ws
 
 -- of a type all of whose names are plain `display` and `display_nix` answer and leave the same, in any lent memory (02, A1)
 abbrev pub PlainPrintsAlike : Type 0
