@@ -14,7 +14,7 @@ use Rattle.types.specs.Arena.{Arena, sound}
 use Rattle.types.specs.Memory.{flat, heads, words-of, starts-of, counters-of, arena-of, Holds}
 use Rattle.types.specs.Reply.{Reply, reply, reply-of, tabled, judged, rooted}
 use Rattle.types.specs.declared.Counters.{Counters}
-use Rattle.types.proofs.Tests.{and-true, both, same-if}
+use Rattle.types.proofs.Tests.{and-true, both, same-true, same-if}
 use Rattle.types.proofs.Lists.{length-padded}
 use Rattle.types.proofs.Addresses.{length-heads}
 use Rattle.types.proofs.Memories.{holds-arena-of}
@@ -152,6 +152,29 @@ module _ {t w s : List ℕ} {c : Counters} {u v r : List ℕ} {d : Counters} (S 
   pub told-equal : m < length (S .view) → n < length (T .view) → tree (S .names) (S .view) m ≡ tree (T .names) (T .view) n → equal-reply t w s c m u v r d n ≡ ok true
   unfolding equal
   told-equal l k e = judged-equal l k ∙ ap ok (same-if tree-dec (tree (S .names) (S .view) m) (tree (T .names) (T .view) n) e)
+
+-- and nodes that are told to be equal have one tree
+pub record OneTree (t w s : List ℕ) (c : Counters) (m : ℕ) (u v r : List ℕ) (d : Counters) (n : ℕ) : Type 0 where
+  pub left : Side t w s c
+  pub right : Side u v r d
+  pub left-inside : m < length (left .view)
+  pub right-inside : n < length (right .view)
+  pub same : tree (left .names) (left .view) m ≡ tree (right .names) (right .view) n
+
+pub one-tree : (t w s : List ℕ) (c : Counters) (m : ℕ) (u v r : List ℕ) (d : Counters) (n : ℕ) → equal-reply t w s c m u v r d n ≡ ok true → OneTree t w s c m u v r d n
+unfolding equal-reply equal-roots equal
+one-tree t w s c m u v r d n =
+    lent-cases Told t w s c _ ok-refused ok-refused (λ S.
+    lent-cases Told u v r d _ ok-refused ok-refused (λ T.
+    rooted-cases Told m (λ (x : Arena). rooted n (λ (y : Arena). ok (equal (S .names) x m (T .names) y n)) (T .view)) (S .view) ok-refused (λ l.
+    rooted-cases Told n (λ (y : Arena). ok (equal (S .names) (S .view) m (T .names) y n)) (T .view) ok-refused (λ i e.
+    record { left = S; right = T; left-inside = l; right-inside = i; same = same-true tree-dec _ _ (ok-same e) }))))
+  where
+    Told : Out Bool → Type 0
+    Told o = o ≡ ok true → OneTree t w s c m u v r d n
+
+    ok-refused : {k : ℕ} → _≡_ {A = Out Bool} (refuse k) (ok true) → OneTree t w s c m u v r d n
+    ok-refused e = absurd (ok-refuse e)
 
 -- a finished copy is equal to what was copied, under the same names
 pub compact-equal : CompactEqual

@@ -13,7 +13,7 @@ use Rattle.types.specs.Arena.{Arena}
 use Rattle.types.specs.Memory.{flat, padded, Holds}
 use Rattle.types.specs.Reply.{Reply, reply, reply-of, rooted}
 use Rattle.types.specs.declared.Counters.{Counters}
-use Rattle.types.proofs.Tests.{both, same-true}
+use Rattle.types.proofs.Tests.{both}
 use Rattle.types.proofs.Growth.{ext-length}
 use Rattle.types.proofs.Addresses.{Begins, length-heads, ext-flat, ext-heads, word-room, start-room}
 use Rattle.types.proofs.Replies.{rooted-yes}
@@ -22,9 +22,8 @@ use Rattle.node_store.specs.Intern.{has-room}
 use Rattle.soundness.specs.Lent.{lent-to}
 use Rattle.soundness.specs.Inner.Sides.{Side}
 use Rattle.soundness.proofs.Sides.{side-to}
-use Rattle.recursion.proofs.Answers.{ok-refuse, ok-same}
-use Rattle.equal.specs.Equal.{tree-dec, tree, equal}
-use Rattle.equal.specs.Reply.{equal-roots, equal-reply}
+use Rattle.recursion.proofs.Answers.{ok-refuse}
+use Rattle.equal.specs.Reply.{equal-reply}
 use Rattle.importing.specs.Import.{number-in, lacks, import-node, import-from-arena}
 use Rattle.importing.proofs.Lacks.{lacks-exactly}
 use Rattle.importing.proofs.Tables.{numbers-by-text}
@@ -32,7 +31,7 @@ use Rattle.import.specs.Import.{import-reply}
 use Rattle.lang_ty.specs.Numbered.{Numbered, refusal, Imported, numbered, twelve, answer-of}
 use Rattle.lang_ty.specs.Theorems.{ImportEqual, ImportKept, ImportKeeps, ImportThere, ImportAgain, NameLacking, TwelveExactly}
 use Rattle.lang_ty.proofs.Numbers.{refusal-low, reply-numbered}
-use Rattle.lang_ty.proofs.Copies.{lent-cases, rooted-cases, reply-not, Left, left-so, left-held, told-equal}
+use Rattle.lang_ty.proofs.Copies.{lent-cases, rooted-cases, reply-not, Left, left-so, left-held, told-equal, one-tree}
 use Rattle.lang_ty.proofs.ImportedTrees.{complete-numbered, Ran, runs, is-there}
 
 -- ---- memory has room for the arena that it holds
@@ -148,27 +147,17 @@ module _ (t w s : List ℕ) (c : Counters) (root : ℕ) (tt tw ts : List ℕ) (d
   Found k = import-reply t w s c root tt tw ts d ≡ reply (ok k) d tw ts
 
   there-so : (k : ℕ) → equal-reply t w s c root tt tw ts d k ≡ ok true → Found k
-  unfolding equal-reply equal-roots equal reply-of
-  there-so k =
-      lent-cases Told t w s c _ ok-refused ok-refused (λ S.
-      lent-cases Told tt tw ts d _ ok-refused ok-refused (λ T.
-      rooted-cases Told root (λ (x : Arena). rooted k (λ (y : Arena). ok (equal (S .names) x root (T .names) y k)) (T .view)) (S .view) ok-refused (λ l.
-      rooted-cases Told k (λ (y : Arena). ok (equal (S .names) (S .view) root (T .names) y k)) (T .view) ok-refused (λ i e.
-      go S T l i (same-true tree-dec _ _ (ok-same e))))))
-    where
-      Told : Out Bool → Type 0
-      Told o = o ≡ ok true → Found k
-
-      ok-refused : {n : ℕ} → _≡_ {A = Out Bool} (refuse n) (ok true) → Found k
-      ok-refused e = absurd (ok-refuse e)
-
-      go : (S : Side t w s c) (T : Side tt tw ts d) → root < length (S .view) → k < length (T .view) → tree (S .names) (S .view) root ≡ tree (T .names) (T .view) k → Found k
-      go S T l i e =
-          let H = T .holds in
-          let few : length (T .view) ≤ 4096 = omega (arith, start-room H, H .nodes, H .few-starts) in
-          let I = is-there t (S .names) (S .is) tt (T .names) (T .is) (length tw) (length ts) (S .view) (S .holds .good) (T .view) (H .good) few (suc root) root (omega arith) l k i e in
-          import-is S T l ∙ ap (reply-of tw ts d) (asked-complete S T (I .0) ∙ I .1)
-          ∙ (λ z. reply (ok k) (record { nodes = sym (H .nodes) z; words = sym (H .total) z }) (sym (H .words) z) (sym (H .starts) z))
+  unfolding reply-of
+  there-so k e =
+      let O = one-tree t w s c root tt tw ts d k e in
+      let S = O .left in
+      let T = O .right in
+      let l = O .left-inside in
+      let H = T .holds in
+      let few : length (T .view) ≤ 4096 = omega (arith, start-room H, H .nodes, H .few-starts) in
+      let I = is-there t (S .names) (S .is) tt (T .names) (T .is) (length tw) (length ts) (S .view) (S .holds .good) (T .view) (H .good) few (suc root) root (omega arith) l k (O .right-inside) (O .same) in
+      import-is S T l ∙ ap (reply-of tw ts d) (asked-complete S T (I .0) ∙ I .1)
+      ∙ (λ z. reply (ok k) (record { nodes = sym (H .nodes) z; words = sym (H .total) z }) (sym (H .words) z) (sym (H .starts) z))
 
   -- ---- 12 exactly
   module _ (S : Side t w s c) (T : Side tt tw ts d) (l : root < length (S .view)) where

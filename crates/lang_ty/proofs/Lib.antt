@@ -9,3 +9,7 @@ pub mod Successes
 pub mod Needing
 pub mod Prints
 pub mod FitsNormalized
+pub mod TreeFolds
+pub mod ValueTrees
+pub mod FitTrees
+pub mod FitCalls

@@ -1,4 +1,5 @@
 pub mod Told
 pub mod Numbered
 pub mod Needs
+pub mod FixTrees
 pub mod Theorems

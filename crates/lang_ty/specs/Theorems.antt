@@ -38,6 +38,11 @@ use Rattle.fitting.specs.Fits.{takes}
 use Rattle.fits.specs.Fits.{fits-reply}
 use Rattle.simplify.specs.Simplify.{simplify-reply}
 use Rattle.lang_ty.specs.Needs.{needs-var-normalization}
+use Rattle.equal.specs.Equal.{tree}
+use Rattle.fix_values.specs.Fix.{Fix, good, fix-of}
+use Rattle.fitting.specs.Fits.{takes}
+use Rattle.fits.specs.Fits.{fits-reply}
+use Rattle.lang_ty.specs.FixTrees.{value-tree, fix-tree}
 
 -- 0 is told exactly of a value, which then is the lent result (01, "Who can cause which number")
 abbrev pub ToldZero : {A : Type 0} → A → Out A → ℕ → A → Type 0
@@ -158,3 +163,42 @@ pub record AllNumbered : Type 1 where
       → Numbered (answer-of (compact-reply t w s c root tw ts d))
   pub import-from-arena : (t w s : List ℕ) (c : Counters) (root : ℕ) (tt tw ts : List ℕ) (d : Counters)
       → Imported (answer-of (import-reply t w s c root tt tw ts d))
+
+-- ---- fixes and trees (02, A5)
+-- whether a value fits a type depends on the tree of the type and that of the value alone, in which names are texts
+abbrev pub FitsByTrees : Type 0
+FitsByTrees =
+    (t u : List ℕ) (ns ms : List Name) → names-of t ≡ some ns → names-of u ≡ some ms
+    → (a b : Arena) → sound (length ns) a ≡ true → sound (length ms) b ≡ true → (m n : ℕ) → m < length a → n < length b
+    → (f g : Fix) → good (length ns) f ≡ true → good (length ms) g ≡ true → (v w : ℕ) → v < length f → w < length g
+    → tree ns a m ≡ tree ms b n → value-tree ns f v ≡ value-tree ms g w → takes f a m v ≡ takes g b n w
+
+-- and whether a type has a variable, on its tree
+abbrev pub VarsByTrees : Type 0
+VarsByTrees =
+    (ns ms : List Name) (a b : Arena) → sound (length ns) a ≡ true → sound (length ms) b ≡ true → (m n : ℕ) → m < length a → n < length b
+    → tree ns a m ≡ tree ms b n → has-type-vars a m ≡ has-type-vars b n
+
+-- so `fits` answers the same, refusals too, of a type that `compact` has copied as of what it was copied from
+abbrev pub FitsCompact : Type 0
+FitsCompact =
+    (t w s : List ℕ) (c : Counters) (root : ℕ) (tw ts : List ℕ) (d : Counters) (m : ℕ) (d′ : Counters) (tw′ ts′ : List ℕ)
+    → compact-reply t w s c root tw ts d ≡ reply (ok m) d′ tw′ ts′ → (ws : List ℕ)
+    → fits-reply t tw′ ts′ d′ m ws ≡ fits-reply t w s c root ws
+
+-- the words of two fixes with one tree, each with the names of its table
+pub record SameFix (ns : List Name) (ws : List ℕ) (ms : List Name) (xs : List ℕ) : Type 0 where
+  pub left : Fix
+  pub left-is : fix-of (length ns) ws ≡ some left
+  pub right : Fix
+  pub right-is : fix-of (length ms) xs ≡ some right
+  pub same : fix-tree ns left ≡ fix-tree ms right
+
+-- and of a type that `import_from_arena` has imported as of what it was imported from, for a fix whose names are numbered by the other
+-- table
+abbrev pub FitsImport : Type 0
+FitsImport =
+    (t w s : List ℕ) (c : Counters) (root : ℕ) (tt tw ts : List ℕ) (d : Counters) (m : ℕ) (d′ : Counters) (tw′ ts′ : List ℕ)
+    → import-reply t w s c root tt tw ts d ≡ reply (ok m) d′ tw′ ts′
+    → (ns ms : List Name) → names-of t ≡ some ns → names-of tt ≡ some ms → (ws xs : List ℕ) → SameFix ns ws ms xs
+    → fits-reply tt tw′ ts′ d′ m xs ≡ fits-reply t w s c root ws
