@@ -33,7 +33,7 @@ type-written {b} {b₂ = b₂} {m = m} root passes text W₁ W₂ W₃ W₄ =
     writes-then (writes-then W W₃) W₄
 
 -- ---- how long it is
-refused-length : (e : ℕ) → e < 2 ^ 32 → length (refused-line e) ≤ 19
+pub refused-length : (e : ℕ) → e < 2 ^ 32 → length (refused-line e) ≤ 19
 unfolding refused-line
 refused-length e h = simp length-append (omega (arith, few-digits e h))
 
@@ -42,7 +42,7 @@ unfolding type-line
 type-length root passes text h k l = simp length-append (omega (arith, decimal-length 3 root h, decimal-length 0 passes k))
 
 -- ---- what fits is written
-written : {b x b′ : List ℕ} {r : ℕ} → length x ≤ length b → Writes b 0 x b′ r → (r ≡ length x) × (b′ ≡ x ++ drop r b)
+pub written : {b x b′ : List ℕ} {r : ℕ} → length x ≤ length b → Writes b 0 x b′ r → (r ≡ length x) × (b′ ≡ x ++ drop r b)
 written {b} {x} {b′} {r} h W =
     let e : r ≡ length x = omega (arith, W .fits (omega arith)) in
     let z : 0 + length x ≡ r = omega (arith, e) in

@@ -33,7 +33,8 @@ fn append_decimal(line: &mut [u8], count: usize, n: u32) -> usize
     write_short(line, count, ShortText::new().push_decimal(n))
 }
 
-fn write_refusal(line: &mut [u8], number: u32) -> usize
+// Writes the line of a refusal.
+pub fn write_refusal(line: &mut [u8], number: u32) -> usize
     ensures { λ r. ⌜ Writes (now (line .entry)) 0 (refused-line number) (now (line .exit)) r ⌝ }
 {
     let count = append(line, 0, b"refused ");

@@ -268,11 +268,11 @@ module _ {node₀ : List ℕ} {count fields : ℕ} {node : List ℕ} {i : ℕ} (
       record { size = R .size; is = left ∙ sym right }
 
 -- ---- the words of either layout
-pub copied-old : {bytes node node′ : List ℕ} {n : ℕ} {l : Layout} → Copied bytes node n → Renews node n node′ → l ≡ layout.Old → CopiedAs l bytes node′ n
+pub copied-old : {bytes ns node node′ : List ℕ} {n : ℕ} {l : Layout} → Copied bytes ns node n → Renews node n node′ → l ≡ layout.Old → CopiedAs l bytes node′ n
 copied-old {bytes} {n = n} C R e = record { count = C .count; size = R .size; is = R .is ∙ ap renewed-words (C .is) ∙ ap (λ (y : Layout). new-words y (words n bytes)) (sym e); small = C .small }
 
-pub copied-new : {bytes node : List ℕ} {n : ℕ} {l : Layout} → Copied bytes node n → l ≡ layout.New → CopiedAs l bytes node n
-copied-new {bytes} {n = n} C e = record { count = C .count; size = C .size; is = C .is ∙ ap (λ (y : Layout). new-words y (words n bytes)) (sym e); small = C .small }
+pub copied-new : {bytes ns node : List ℕ} {n : ℕ} {l : Layout} → Stretch bytes ns → Copied bytes ns node n → l ≡ layout.New → CopiedAs l bytes node n
+copied-new {bytes} {n = n} S C e = record { count = C .count; size = C .size ∙ S .size; is = C .is ∙ ap (λ (y : Layout). new-words y (words n bytes)) (sym e); small = C .small }
 
-pub copied-some : {bytes node : List ℕ} {n : ℕ} {ns : List ℕ} → Stretch bytes ns → Copied bytes node n → Copying node n
-copied-some S C = record { size = C .size; some = omega (arith, C .count, S .some); few = omega (arith, C .count, S .few) }
+pub copied-some : {bytes ns node : List ℕ} {n : ℕ} → Stretch bytes ns → Copied bytes ns node n → Copying node n
+copied-some S C = record { size = C .size ∙ S .size; some = omega (arith, C .count, S .some); few = omega (arith, C .count, S .few) }

@@ -37,7 +37,7 @@ pub(crate) fn short(bytes: &[u8], at: usize) -> u32
     high * 256 + low
 }
 
-pub(crate) fn word(bytes: &[u8], at: usize) -> u32
+pub fn word(bytes: &[u8], at: usize) -> u32
     requires { ⌜ Inside (now bytes) at 4 ⌝ }
     ensures { λ r. ⌜ WordAt (now (bytes .entry)) at r ⌝ }
 {

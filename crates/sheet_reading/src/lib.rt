@@ -1,7 +1,7 @@
 // Reading a sheet from the front: the first fault met is the answer. specs/Sheet.antt says what a sheet is, specs/Reading.antt
 // what `read_sheet` answers.
-mod bytes;
-mod nodes;
+pub mod bytes;
+pub mod nodes;
 mod table;
 
 use bytes::Place;

@@ -20,6 +20,7 @@ ghost use Rattle.sheet_reading.specs.Inner.Steps.{
   Here,
   ReadsWords,
   Stretch,
+  WordRoom,
   Copied,
   Copying,
   Renews,
@@ -75,14 +76,14 @@ fn node_end(bytes: &[u8], at: usize) -> Place
 }
 
 // Copies the words that the bytes have, and answers how many.
-fn copy_words(bytes: &[u8], node: &mut [u32; 66]) -> usize
-    requires { ⌜ Stretch (now bytes) (now node) ⌝ }
-    ensures { λ r. ⌜ Copied (now (bytes .entry)) (now (node .exit)) r ⌝ }
+pub fn copy_words(bytes: &[u8], words: &mut [u32]) -> usize
+    requires { ⌜ WordRoom (now bytes) (now words) ⌝ }
+    ensures { λ r. ⌜ Copied (now (bytes .entry)) (now (words .entry)) (now (words .exit)) r ⌝ }
 {
     let count = bytes.len() / 4;
     let mut i = 0;
     while i < count {
-        node[i] = word(bytes, 4 * i);
+        words[i] = word(bytes, 4 * i);
         i += 1;
     }
     count

@@ -75,11 +75,15 @@ pub record Stretch (bytes node : List ℕ) : Type 0 where
   pub few : length bytes ≤ 264
   pub size : length node ≡ 66
 
--- r is how many they are, and they stand in the array
-pub record Copied (bytes node : List ℕ) (r : ℕ) : Type 0 where
+-- room for the words that the bytes have
+pub record WordRoom (bytes ws : List ℕ) : Type 0 where
+  pub room : length bytes / 4 ≤ length ws
+
+-- r is how many they are, and they stand first in what were the words ws
+pub record Copied (bytes ws ws′ : List ℕ) (r : ℕ) : Type 0 where
   pub count : r ≡ length bytes / 4
-  pub size : length node ≡ 66
-  pub is : take r node ≡ words r bytes
+  pub size : length ws′ ≡ length ws
+  pub is : take r ws′ ≡ words r bytes
   pub small : below (2 ^ 32) (words r bytes) ≡ true
 
 -- the first so many words renewed

@@ -1,11 +1,12 @@
 -- Words of today's layout are copied as they are, and old ones are renewed then.
 use Rattle.sheet_reading.proofs.Renewing.{copied-some, copied-old, copied-new}
+use Rattle.sheet_reading.proofs.Copying.{node-room}
 use borrow.Author.Needs.{needs}
 use Rattle.sheet_reading.proofs.nodes.copy_node.Statement.{statement}
 use Rattle.sheet_reading.proofs.nodes.copy_node.Tie as tie
 
 copy-words-requires : tie.Need-copy-words-requires
-copy-words-requires c κs = search needs
+copy-words-requires c κs = search node-room
 
 enum-told : tie.Need-enum-told
 enum-told c = search needs

@@ -1,15 +1,15 @@
 -- The invariant: i words are copied.
 use Prim.Native.Nat.{_-_}
-use Rattle.sheet_reading.proofs.Copying.{Copies, copy-start, copy-inside, copy-item, copy-more, copy-done}
+use Rattle.sheet_reading.proofs.Copying.{Copies, copy-start, copy-inside, copy-item, copy-more, copy-long, copy-done}
 use borrow.Author.Needs.{needs}
 use Rattle.sheet_reading.proofs.nodes.copy_words.Statement.{statement}
 use Rattle.sheet_reading.proofs.nodes.copy_words.Tie as tie
 
 abbrev Inv-loop : tie.InvT-loop
-Inv-loop bytes node₀ count i₀ node i = Copies bytes count node i
+Inv-loop bytes words₀ count i₀ words i = Copies bytes words₀ count words i
 
 abbrev μ-loop : tie.MeasureT-loop
-μ-loop bytes node₀ count i₀ node i = count - i
+μ-loop bytes words₀ count i₀ words i = count - i
 
 loop-holds : tie.Need-loop-holds Inv-loop μ-loop
 loop-holds c = search copy-start
@@ -20,11 +20,11 @@ mul-word c = search needs
 word-requires : tie.Need-word-requires Inv-loop μ-loop
 word-requires c κs = search copy-inside
 
-mul-node : tie.Need-mul-node Inv-loop μ-loop
-mul-node c = search needs
+mul-words : tie.Need-mul-words Inv-loop μ-loop
+mul-words c = search needs
 
-element-write-node : tie.Need-element-write-node Inv-loop μ-loop
-element-write-node c = search copy-item
+slice-write-words : tie.Need-slice-write-words Inv-loop μ-loop
+slice-write-words c = search copy-item
 
 add-i : tie.Need-add-i Inv-loop μ-loop
 add-i c = search needs
@@ -34,6 +34,9 @@ loop-less c = search needs
 
 loop-again : tie.Need-loop-again Inv-loop μ-loop
 loop-again c = search copy-more
+
+same-length : tie.Need-same-length Inv-loop μ-loop
+same-length c = search copy-long
 
 returns : tie.Need-returns Inv-loop μ-loop
 returns c = search copy-done
@@ -47,9 +50,10 @@ copy-words-spec =
     loop-holds
     mul-word
     word-requires
-    mul-node
-    element-write-node
+    mul-words
+    slice-write-words
     add-i
     loop-less
     loop-again
+    same-length
     returns)
