@@ -31,11 +31,14 @@ pub by-option : {N Y : Type 0} (P : Y → Type 0) (o : Option N) {f : N → Y} {
 by-option P (some n) p q = p n
 by-option P none p q = q
 
+pub by-required : {A N : Type 0} (P : Out A → Type 0) (e : ℕ) (o : Option N) {f : N → Out A} → P (refuse e) → ((n : N) → P (f n)) → P (required e o f)
+unfolding required
+by-required P e none p h = p
+by-required P e (some n) p h = h n
+
 module _ {A : Type 0} where
   pub required-numbered : {N : Type 0} {e : ℕ} → 0 < e → e ≤ 10 → (o : Option N) {f : N → Out A} → ((n : N) → Numbered (f n)) → Numbered (required e o f)
-  unfolding required
-  required-numbered l m none h = refusal l m
-  required-numbered l m (some n) h = h n
+  required-numbered {e = e} l m o h = by-required Numbered e o (refusal l m) h
 
   pub then-numbered : {B : Type 0} {o : Out A} {f : A → Out B} → Numbered o → ((x : A) → Numbered (f x)) → Numbered (o >>= f)
   unfolding _>>=_

@@ -1,6 +1,7 @@
--- 0 means success, and a refusal's number is at most 10, or 11 where a sheet is converted, or 12 where a type is imported, of every call that can be refused: after the numbers that calls share, 1, 2 and 6, come those of the call's own.
+-- 0 means success, and a refusal's number is at most 10, or 11 where a sheet is converted, or 12 where a type is imported, or 14 where a fix is held against a type, of every call that can be refused: after the numbers that calls share, 1, 2 and 6, come those of the call's own.
 use Prim.Native.Nat.{ℕ, min, _<_, _≤_}
 use native.Mathlib.Omega.{arith}
+use mathlib.Core.Bool.{Bool}
 use mathlib.Core.Path.{_≡_, refl}
 use mathlib.Core.List.{List, []}
 use lib.ListN.{length}
@@ -10,7 +11,7 @@ use Rattle.types.specs.Out.{Out, ok, refuse}
 use Rattle.types.specs.Node.{tag, names, guess, is-words, linked, rising, decode, decode-in}
 use Rattle.types.specs.Arena.{Arena, at}
 use Rattle.types.specs.Memory.{arena-of}
-use Rattle.types.specs.Reply.{Reply, reply, tabled, judged}
+use Rattle.types.specs.Reply.{Reply, reply, tabled, judged, rooted}
 use Rattle.types.specs.declared.Counters.{Counters}
 use Rattle.names.specs.Table.{Name, split, names-of}
 use Rattle.names.specs.Reply.{table-reply, stretch, name-reply}
@@ -21,6 +22,10 @@ use Rattle.arena.specs.Compare.{comparing, compare-reply}
 use Rattle.walks.specs.Asked.{asking, ask-reply}
 use Rattle.equal.specs.Equal.{equal}
 use Rattle.soundness.specs.Lent.{lent-to}
+use Rattle.questions.specs.Vars.{has-type-vars}
+use Rattle.fix_values.specs.Fix.{fix-of}
+use Rattle.fitting.specs.Fits.{fits}
+use Rattle.fits.specs.Fits.{fits-type, fits-root, fits-reply}
 use Rattle.equal.specs.Reply.{equal-roots, equal-reply}
 use Rattle.spelling.specs.declared.Spelling.{Spelling}
 use Rattle.spelling.specs.declared.Spelling.the-variants as spelling
@@ -37,10 +42,11 @@ use Rattle.set_op_lists.specs.SetOps.{normalize-set-ops}
 use Rattle.simplify.specs.Simplify.{answered, simplify-reply}
 use Rattle.compact.specs.Compact.{over-limit, limited, cleared, empty, source, compacted, compact-reply}
 use Rattle.lang_ty.specs.Told.{told, tell}
-use Rattle.lang_ty.specs.Theorems.{ToldZero, ArenaZero, ImportZero}
-use Rattle.lang_ty.specs.Numbered.{Numbered, value, refusal, Converted, done, eleven, Imported, numbered, twelve, ZeroIsValue, answer-of, length-of}
+use Rattle.lang_ty.specs.Theorems.{ToldZero, ArenaZero, ImportZero, FitsZero}
+use Rattle.lang_ty.specs.Numbered as fitted
+use Rattle.lang_ty.specs.Numbered.{Numbered, value, refusal, Converted, done, eleven, Imported, numbered, twelve, Fitted, thirteen, fourteen, ZeroIsValue, answer-of, length-of}
 use Rattle.lang_ty.specs.Theorems.{AllNumbered}
-use Rattle.lang_ty.proofs.Numbers.{NumberedJob, refusal-high, refusal-low, by-test, required-numbered, then-numbered, rooted-numbered, reply-numbered, intern-numbered}
+use Rattle.lang_ty.proofs.Numbers.{NumberedJob, refusal-high, refusal-low, by-test, by-required, required-numbered, then-numbered, rooted-numbered, reply-numbered, intern-numbered}
 use Rattle.lang_ty.proofs.Passes.{simplify-numbered}
 use Rattle.lang_ty.proofs.Works.{normalize-numbered, set-ops-numbered, copy-numbered}
 use Rattle.lang_ty.proofs.Imports.{import-numbered}
@@ -152,6 +158,19 @@ pub compact-numbered : (t w s : List ℕ) (c : Counters) (root : ℕ) (tw ts : L
 unfolding compact-reply
 compact-numbered t w s c root tw ts d = compacted-numbered root tw ts d (source-numbered t w s c root tw ts)
 
+-- ---- `fits`
+fits-numbered : (t w s : List ℕ) (c : Counters) (root : ℕ) (ws : List ℕ) → Fitted (fits-reply t w s c root ws)
+unfolding fits-reply lent-to tabled judged fits-root rooted fits-type
+fits-numbered t w s c root ws =
+    by-required Fitted 1 (names-of t) (low 1 (omega arith) (omega arith))
+    (λ ns. by-required Fitted 2 (arena-of (length ns) w s c) (low 2 (omega arith) (omega arith))
+    (λ a. by-test Fitted (ltb root (length a))
+    (by-required Fitted 13 (fix-of (length ns) ws) thirteen (λ f. by-test Fitted (has-type-vars a root) fourteen (fitted.numbered (value (fits f a root)))))
+    (low 6 (omega arith) (omega arith))))
+  where
+    low : (e : ℕ) → 0 < e → e ≤ 10 → Fitted {A = Bool} (refuse e)
+    low e l m = fitted.numbered (refusal l m)
+
 -- ---- all of them
 pub all-numbered : AllNumbered
 all-numbered = record {
@@ -171,6 +190,7 @@ all-numbered = record {
   normalize-set-ops = work-numbered normalize-set-ops set-ops-numbered;
   compact = compact-numbered;
   import-from-arena = import-numbered;
+  fits = fits-numbered;
 }
 
 -- ---- what a host knows of the number that it is told
@@ -195,3 +215,11 @@ module _ {A : Type 0} (old : A) where
       imported : {o : Out A} → Imported o → (n : ℕ) → o ≡ refuse n → (0 < n) × (n ≤ 12)
       imported (numbered N) n q = let M : Numbered (refuse n) = rw q at N in (refusal-high M, omega (arith, refusal-low M))
       imported twelve n q = let p : 12 ≡ n = cc in (omega (arith, p), omega (arith, p))
+
+  pub fits-zero : (o : Out A) {r : ℕ} {x : A} → FitsZero old o r x
+  fits-zero o F = zero-is-value 14 o (known F)
+    where
+      known : {o : Out A} → Fitted o → (n : ℕ) → o ≡ refuse n → (0 < n) × (n ≤ 14)
+      known (fitted.numbered N) n q = let M : Numbered (refuse n) = rw q at N in (refusal-high M, omega (arith, refusal-low M))
+      known thirteen n q = let p : 13 ≡ n = cc in (omega (arith, p), omega (arith, p))
+      known fourteen n q = let p : 14 ≡ n = cc in (omega (arith, p), omega (arith, p))

@@ -1,5 +1,5 @@
--- 0 means success and a refusal has a number from 1 to 10, or 11 from `convert_sheet` alone, or 12 from `import_from_arena` alone, so that
--- a host can rely on what it is told (01, "Who can cause which number"; 02, A2 and A4).
+-- 0 means success and a refusal has a number from 1 to 10, or 11 from `convert_sheet` alone, or 12 from `import_from_arena` alone, or 13 or
+-- 14 from `fits` alone, so that a host can rely on what it is told (01, "Who can cause which number"; 02, A2, A4 and A5).
 use Prim.Native.Nat.{ℕ, _<_, _≤_}
 use mathlib.Core.Path.{_≡_}
 use Rattle.types.specs.Out.{Out, ok, refuse}
@@ -20,6 +20,12 @@ pub data Converted {A : Type 0} : Out A → Type 0 where
 pub data Imported {A : Type 0} : Out A → Type 0 where
   numbered : {o : Out A} → Numbered o → Imported o
   twelve : Imported (refuse 12)
+
+-- an answer of `fits`: as those of other calls, or refused by 13 or 14 (02, A5)
+pub data Fitted {A : Type 0} : Out A → Type 0 where
+  numbered : {o : Out A} → Numbered o → Fitted o
+  thirteen : Fitted (refuse 13)
+  fourteen : Fitted (refuse 14)
 
 -- a host that is told the number r, with x where the result is lent, knows of the answer o that it was told: r is 0 exactly if o is a
 -- value, and then x is that value; and r is at most this number

@@ -14,7 +14,7 @@ use Rattle.equal.specs.Reply.{equal-reply}
 use Rattle.compact.specs.Compact.{compact-reply}
 use Rattle.import.specs.Import.{import-reply}
 use Rattle.lang_ty.specs.Told.{told, tell, told-arena, tell-arena}
-use Rattle.lang_ty.specs.Numbered.{Numbered, Converted, Imported, ZeroIsValue, answer-of, length-of}
+use Rattle.lang_ty.specs.Numbered.{Numbered, Converted, Imported, Fitted, ZeroIsValue, answer-of, length-of}
 use Rattle.types.specs.Arena.{Arena, at, sound, Ext}
 use Rattle.types.specs.Places.{Reachable}
 use Rattle.types.specs.Memory.{Holds}
@@ -40,8 +40,6 @@ use Rattle.simplify.specs.Simplify.{simplify-reply}
 use Rattle.lang_ty.specs.Needs.{needs-var-normalization}
 use Rattle.equal.specs.Equal.{tree}
 use Rattle.fix_values.specs.Fix.{Fix, good, fix-of}
-use Rattle.fitting.specs.Fits.{takes}
-use Rattle.fits.specs.Fits.{fits-reply}
 use Rattle.lang_ty.specs.FixTrees.{value-tree, fix-tree}
 
 -- 0 is told exactly of a value, which then is the lent result (01, "Who can cause which number")
@@ -55,6 +53,10 @@ ArenaZero old y r x d w s = Numbered (answer-of y) → told-arena r x d w s ≡ 
 -- the same of `import_from_arena`, which may be refused by 12 (02, A4)
 abbrev pub ImportZero : {A : Type 0} → A → Reply A → ℕ → A → Counters → List ℕ → List ℕ → Type 0
 ImportZero old y r x d w s = Imported (answer-of y) → told-arena r x d w s ≡ tell-arena old y → ZeroIsValue 12 r x (answer-of y)
+
+-- the same of `fits`, which may be refused by 13 and 14 (02, A5)
+abbrev pub FitsZero : {A : Type 0} → A → Out A → ℕ → A → Type 0
+FitsZero old o r x = Fitted o → told r x ≡ tell old o → ZeroIsValue 14 r x o
 
 -- a type that `compact` has copied is structurally equal to what it was copied from: `structurally_eq` then answers yes, under the same
 -- names (01, "arena")
@@ -141,8 +143,8 @@ PlainPrintsAlike =
     → ((table : ℕ) (a : Arena) → Holds table w s c a → PlainType (split t) a root)
     → display-nix-reply t w s c root b ≡ display-reply t w s c root b
 
--- of what each call is defined to answer the number is 0 exactly for a value, and at most 10, but for `convert_sheet` 0 or 11, and for
--- `import_from_arena` at most 10 or 12. A call that is never refused isn't listed: it always answers 0
+-- of what each call is defined to answer the number is 0 exactly for a value, and at most 10, but for `convert_sheet` 0 or 11, for
+-- `import_from_arena` at most 10 or 12, and for `fits` at most 10 or 13 or 14. A call that is never refused isn't listed: it always answers 0
 pub record AllNumbered : Type 1 where
   pub table : (t : List ℕ) → Numbered (table-reply t)
   pub name : (t : List ℕ) (number : ℕ) → Numbered (name-reply t number)
@@ -163,6 +165,7 @@ pub record AllNumbered : Type 1 where
       → Numbered (answer-of (compact-reply t w s c root tw ts d))
   pub import-from-arena : (t w s : List ℕ) (c : Counters) (root : ℕ) (tt tw ts : List ℕ) (d : Counters)
       → Imported (answer-of (import-reply t w s c root tt tw ts d))
+  pub fits : (t w s : List ℕ) (c : Counters) (root : ℕ) (ws : List ℕ) → Fitted (fits-reply t w s c root ws)
 
 -- ---- fixes and trees (02, A5)
 -- whether a value fits a type depends on the tree of the type and that of the value alone, in which names are texts
