@@ -1,2 +1,3 @@
 pub mod Fits
+pub mod Theorems
 pub mod Inner

@@ -9,3 +9,7 @@ pub mod Agreeing
 pub mod NodeRows
 pub mod Taking
 pub mod Deciding
+pub mod ByChildren
+pub mod ByName
+pub mod Demanded
+pub mod Evaluated

@@ -1,2 +1,4 @@
 pub mod Fits
+pub mod Worked
+pub mod Theorems
 pub mod Inner
