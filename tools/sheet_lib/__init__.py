@@ -1,1 +1,1 @@
-"""What tools/sheet rests on: the words of nodes, sheets read, written and converted, texts, `simplify` and pictures."""
+"""What tools/sheet rests on: the words of nodes, sheets read, written and converted, texts, `simplify`, pictures and fixes."""

@@ -1,5 +1,6 @@
 """The nodes of a sheet for people to look at: as lines, and as a picture in Graphviz's language."""
-from .nodes import ATTR_SET, KINDS, LAMBDA, LIST, NEG, SEPARATORS, Refused, children, field_words, is_open, kind, need
+from .nodes import ATTR_SET, KINDS, LAMBDA, LIST, NEG, SEPARATORS, children, field_words, is_open, kind
+from .programs import piped
 from .simplifying import dropped, signs
 from .texts import Texts
 
@@ -81,10 +82,4 @@ def draw(sheet):
 
 def svg(lines):
     """The picture by Graphviz, where it is installed."""
-    import subprocess  # here, since it takes longer to load than all that the other commands need
-    try:
-        done = subprocess.run(["dot", "-Tsvg"], input="\n".join(lines).encode(), capture_output=True)
-    except OSError as why:
-        raise Refused(f"--svg wants the command dot of Graphviz: {why.strerror}") from None
-    need(done.returncode == 0, f"dot ended with {done.returncode}: {done.stderr.decode(errors='replace').strip()[:200]!r}")
-    return done.stdout
+    return piped(["dot", "-Tsvg"], "\n".join(lines).encode(), "--svg wants the command dot of Graphviz")

@@ -17,8 +17,11 @@ RULES = {
     7: "an arena holds at most 4,096 nodes and 16,384 words",
     8: "a list has at most 64 different members",
     9: "a text has at most 65,536 bytes",
-    10: "a sheet ends where its last node ends, has at most 65,536 bytes and no node twice",
+    10: "a sheet ends where its last node ends, has at most 65,536 bytes and no node twice; "
+        "a fix that `fit` reads has at most 131,072 words",
     11: "a sheet that is converted is an old one that the old rules take, simplification left aside",
+    13: "a fix has at most 1,024 values, and a list in it at most 65,535 elements",
+    14: "a type that a fix is held against has no variables",
 }
 AUTHOR, SIZE = "whoever made the node or chose the root", "the size of the work"
 CAUSES = {1: "whoever made the name table", 10: "whoever sent the sheet"}

@@ -1,4 +1,4 @@
-"""A type from its text, and the sheet that holds it."""
+"""A type from its text, and the sheet that holds it; texts token by token."""
 import re
 
 from .nodes import ATTR_SET, BOTTOM, BYTES, INTERSECTION, LAMBDA, LIST, MEMBERS, NAMED, NEG, NEW, NODES, PRIMITIVE, PRIMITIVES
@@ -75,13 +75,11 @@ class Tree:
         return name
 
 
-class Parser:
-    """One type from its text. Functions that meet types within types are generators, for `run`."""
+class Tokens:
+    """A text token by token. `SPACE` and `TOKEN` are the language's own, and so is what `unread` says of anything else."""
 
-    def __init__(self, tree, text, source, at=0):
-        self.tree, self.text, self.source = tree, text, source
-        self.before, self.depth = len(tree.types), 0
-        self.closed = None  # the last type that stood in parentheses, and where they ended
+    def __init__(self, text, source, at=0):
+        self.text, self.source, self.depth = text, source, 0
         self.go_on(at)
 
     def here(self):
@@ -89,12 +87,11 @@ class Parser:
 
     def go_on(self, at):
         """To the next token, an empty one at the end."""
-        self.at = SPACE.match(self.text, at).end()
-        found = TOKEN.match(self.text, self.at)
-        if not found and self.at < len(self.text):
-            met = self.text[self.at]
-            raise Refused("no quote ends this string" if met == '"' else f"no type goes on with {shown(met)}", self.here())
-        self.token, self.end = (found.group(), found.end()) if found else ("", self.at)
+        self.at = self.SPACE.match(self.text, at).end()
+        self.found = self.TOKEN.match(self.text, self.at)
+        if not self.found and self.at < len(self.text):
+            raise Refused(self.unread(), self.here())
+        self.token, self.end = (self.found.group(), self.found.end()) if self.found else ("", self.at)
 
     def take(self, *wanted):
         token = self.token
@@ -102,6 +99,20 @@ class Parser:
             raise Refused(f"wanted {' or '.join(map(repr, wanted))}, met {shown(token)}", self.here())
         self.go_on(self.end)
         return token
+
+
+class Parser(Tokens):
+    """One type from its text. Functions that meet types within types are generators, for `run`."""
+    SPACE, TOKEN = SPACE, TOKEN
+
+    def __init__(self, tree, text, source, at=0):
+        super().__init__(text, source, at)
+        self.tree, self.before = tree, len(tree.types)
+        self.closed = None  # the last type that stood in parentheses, and where they ended
+
+    def unread(self):
+        met = self.text[self.at]
+        return "no quote ends this string" if met == '"' else f"no type goes on with {shown(met)}"
 
     def add(self, number, place, children=(), data=None):
         found = self.tree.add(number, place, children, data)
@@ -288,13 +299,21 @@ def lay_out(names, nodes, root):
     return data
 
 
-def sheet(texts):
-    """The bytes of a sheet, from pairs of a text and where it stands: a type first, then NAME=TYPE or NAME."""
+def parsed(texts):
+    """What pairs of a text and where it stands give, a type first, then NAME=TYPE or NAME: all types, and the first's number."""
     tree = Tree()
     (text, source), *more = texts
     for each in more:
         define(tree, *each)
-    root = Parser(tree, text, source).whole()
+    return tree, Parser(tree, text, source).whole()
+
+
+def laid_out(tree, root):
+    """The bytes of the sheet of a type, and its names with their numbers."""
     layout = Layout(tree)
     root = layout.put(root)
-    return lay_out(layout.names, layout.nodes, root)
+    return lay_out(layout.names, layout.nodes, root), layout.names
+
+
+def sheet(texts):
+    return laid_out(*parsed(texts))[0]
