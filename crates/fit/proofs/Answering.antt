@@ -1,25 +1,24 @@
 -- What the program answers on each of its ways, and the line of it.
-use Prim.Native.Nat.{ℕ, suc, _+_, _-_, _*_, _/_, _%_, _^_, _≤_, _<_}
+use Prim.Native.Nat.{ℕ, _+_, _-_, _*_, _/_, _%_, _^_, _≤_, _<_}
 use mathlib.Core.Path.{_≡_, refl, sym, ap, _∙_, subst}
 use mathlib.Core.Bool.{Bool, true, false}
 use mathlib.Core.List.{List, _++_}
 use native.Mathlib.Omega.{arith}
-use lib.ListN.{length, getD, take, drop, replicate, length-replicate, length-drop}
+use lib.ListN.{length, take, drop, replicate, length-replicate, length-drop}
 use lib.Seq.{take-all, length-take-le, drop-drop}
 use lib.Dec.{eqb, leb}
 use borrow.Author.Tests.{le-leb, lt-leb, eq-eqb, ne-eqb}
 use Rattle.words.specs.declared.Layout.the-variants as layout
 use Rattle.types.specs.Out.{Out, ok, refuse, _>>=_}
 use Rattle.types.specs.Bytes.{bytes}
-use Rattle.types.specs.Memory.{Holds}
 use Rattle.types.specs.Reply.{judged}
 use Rattle.types.specs.declared.Counters.{Counters}
 use Rattle.types.proofs.Replies.{tabled-yes, judged-yes}
-use Rattle.names.specs.Table.{Name, IsTable, names-of}
+use Rattle.names.specs.Table.{Name, names-of}
 use Rattle.names.proofs.Tables.{is-names-of}
 use Rattle.soundness.specs.Lent.{lent-to}
 use Rattle.appending.specs.Inner.{Writes}
-use Rattle.sheet_reading.specs.Sheet.{Sheet, several, value, number, words, read-sheet, read-sheet-in}
+use Rattle.sheet_reading.specs.Sheet.{Sheet, several, value, number, words, read-sheet}
 use Rattle.sheet_reading.specs.Inner.Reading.{Blank, ReadsSheet}
 use Rattle.sheet_reading.specs.Inner.Steps.{Inside, WordAt, WordRoom, Copied}
 use Rattle.sheet_reading.specs.declared.Reading.{Reading}

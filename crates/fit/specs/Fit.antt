@@ -1,5 +1,5 @@
--- The line of the program `fit` (02, A5, as issue 23 lays its input out): a length of 32 bits, a sheet of that many bytes, then a fix to the
--- end, all most significant byte first.
+-- The line of the program `fit` (02, A5). Its input is a length of 32 bits, a sheet of that many bytes, then a fix to the end, all most
+-- significant byte first.
 use Prim.Native.Nat.{ℕ, _*_, _/_, _%_, _≤_}
 use mathlib.Core.Path.{_≡_}
 use mathlib.Core.Bool.{Bool, true, false}

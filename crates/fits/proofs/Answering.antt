@@ -1,9 +1,9 @@
 -- What the call answers on each of its ways: 6, 13, 14, or what the rows say.
 use Prim.Native.Nat.{ℕ, _≤_, _<_}
-use mathlib.Core.Path.{_≡_, refl, sym, ap, _∙_, subst}
+use mathlib.Core.Path.{_≡_, sym, ap, _∙_, subst}
 use mathlib.Core.Bool.{Bool, true, false}
 use mathlib.Core.List.{List}
-use mathlib.Core.Option.{Option, none, some}
+use mathlib.Core.Option.{Option}
 use native.Mathlib.Omega.{arith}
 use lib.ListN.{length, replicate, length-replicate}
 use Rattle.types.specs.Out.{Out, ok, refuse, required}
@@ -13,7 +13,7 @@ use Rattle.types.specs.Reply.{judged}
 use Rattle.types.specs.declared.Counters.{Counters}
 use Rattle.types.proofs.Replies.{tabled-yes, judged-yes, rooted-no, rooted-yes}
 use Rattle.names.specs.Table.{Name, names-of}
-use Rattle.node_store.specs.Inner.Stored.{Lent, InRange}
+use Rattle.node_store.specs.Inner.Stored.{Lent}
 use Rattle.soundness.specs.Lent.{lent-to}
 use Rattle.soundness.specs.Inner.Sound.{lent-reply, judged-out}
 use Rattle.soundness.specs.declared.Judged.{Judged}
@@ -22,7 +22,7 @@ use Rattle.soundness.proofs.Verdicts.{lent-names, lent-refused}
 use Rattle.walks.specs.Inner.Asked.{Says}
 use Rattle.questions.specs.Vars.{has-var}
 use Rattle.fix_values.specs.Fix.{Fix, fix-of}
-use Rattle.fix_values.specs.Inner.{Unplaced, FixIn, Checks}
+use Rattle.fix_values.specs.Inner.{Unplaced, Checks}
 use Rattle.fix_values.proofs.Checking.{held-few}
 use Rattle.fitting.specs.Fits.{fits}
 use Rattle.fitting.specs.Inner.Pairs.{Decidable, Decides}

@@ -1,15 +1,14 @@
 -- What a node takes hangs only on what its children take of the value itself and of the value's own children: tests that agree on the values of a fix give the same answer.
 use Prim.Native.Nat.{ℕ, zero, suc, _≤_, _<_}
-use mathlib.Core.Path.{_≡_, refl, sym, ap, _∙_}
+use mathlib.Core.Path.{_≡_, refl, ap}
 use mathlib.Core.Bool.{Bool, true, false, not, _&&_, _||_}
 use mathlib.Core.List.{List, [], _∷_, map}
-use native.Mathlib.Omega.{arith}
 use lib.ListN.{length, drop}
 use lib.Dec.{eqb}
 use Rattle.types.specs.Node.{positive, negative, Field, field, primitive, list, lambda, attrset, named, Tag, members, bound, var, neg, form, below}
 use Rattle.types.proofs.Lists.{below-cons, below-more}
 use Rattle.fix_values.specs.Values as values
-use Rattle.fix_values.specs.Values.{Value, value, shape, children, kind, well}
+use Rattle.fix_values.specs.Values.{Value, value, children, well}
 use Rattle.fix_values.specs.Fix.{Fix, value-at}
 use Rattle.fix_values.proofs.ValueWords.{well-parts}
 use Rattle.fitting.specs.Fits.{Test, some-pass, all-pass, first, each, list-takes, field-test, other-test, fields-pass, none-missing, set-takes, node-takes}

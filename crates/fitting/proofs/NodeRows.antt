@@ -1,5 +1,5 @@
 -- The row of a node, by its kind: where its children's rows are joined, that is what the node takes.
-use Prim.Native.Nat.{ℕ, zero, suc, _+_, _*_, _≤_, _<_}
+use Prim.Native.Nat.{ℕ, _+_}
 use mathlib.Core.Path.{_≡_, refl, sym, ap, _∙_, subst}
 use mathlib.Core.Bool.{Bool, true, false, not, _&&_, _||_, xor}
 use mathlib.Core.List.{List, [], _∷_, _++_, map}
@@ -7,24 +7,22 @@ use mathlib.Core.Logic.{_⊎_, inl, inr}
 use native.Mathlib.Omega.{arith}
 use lib.ListN.{length, getD, replicate, length-replicate, length-map, List·getD-map}
 use lib.Dec.{eqb}
-use borrow.Author.Tests.{eq-eqb, ne-eqb, eqb-true}
+use borrow.Author.Tests.{eq-eqb, eqb-true}
 use Rattle.words.specs.Words.{head-kind, child}
-use Rattle.types.specs.Kind as kinds
 use Rattle.types.specs.Kind.{disc, body-count}
 use Rattle.types.specs.Node.{positive, negative, primitive, list, lambda, attrset, named, Tag, members, bound, var, neg, form, Node, node, tag, kind, data-of, child-words, body, children, encode, formed, well}
 use Rattle.types.specs.Fault.{children-in}
 use Rattle.types.proofs.Faults.{children-encode}
 use Rattle.types.proofs.Decodes.{well-parts}
-use Rattle.types.proofs.Nodes.{Formed, formed-parts, length-child-words, nil}
+use Rattle.types.proofs.Nodes.{formed-parts, length-child-words, nil}
 use Rattle.node_store.specs.Inner.Children.{ChildWords}
 use Rattle.node_reading.proofs.NodeReads.{kind-encode}
-use Rattle.bits.specs.Bits.{has}
 use Rattle.bits.proofs.Sets.{has-none}
 use Rattle.fix_values.specs.Fix.{Fix}
 use Rattle.fitting.specs.Fits.{Test, some-pass, all-pass, first, node-takes}
 use Rattle.fitting.specs.Inner.Rows.{pair, HasRow}
 use Rattle.fitting.specs.Inner.Joined.{starts-full, join, join-all, RowsOf, JoinsAll}
-use Rattle.fitting.specs.Inner.Taken.{NodeIn, Holding, Against, RowOf}
+use Rattle.fitting.specs.Inner.Taken.{Holding, Against, RowOf}
 
 -- ---- joined one by one
 or-all : (F : ℕ → Test) (v : ℕ) (b : Bool) (cs : List ℕ) → join-all 7 b (map (λ (n : ℕ). F n v) cs) ≡ (b || some-pass (map F cs) v)

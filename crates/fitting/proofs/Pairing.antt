@@ -1,18 +1,14 @@
 -- Rows put one behind another: a row that is written is the row of its node, and those before it are as they were.
-use Prim.Native.Nat.{ℕ, suc, _+_, _-_, _*_, _/_, _%_, _^_, _≤_, _<_}
-use mathlib.Core.Path.{_≡_, refl, sym, ap, _∙_, subst}
-use mathlib.Core.Bool.{Bool, true, false}
-use mathlib.Core.List.{List, [], _∷_, map}
+use Prim.Native.Nat.{ℕ, _+_, _*_, _^_, _≤_, _<_}
+use mathlib.Core.Path.{_≡_, refl, sym, ap, _∙_}
+use mathlib.Core.List.{List}
 use native.Mathlib.Omega.{arith}
 use native.Mathlib.Decide.{ℕ-discrete}
 use lib.ListN.{length, getD, set, length-set}
 use lib.Seq.{getD-set-same, getD-set-other}
 use mir.Syntax.{w64}
 use mir.Val.{Fits}
-use Rattle.bits.specs.Bits.{bit, has}
-use Rattle.fitting.specs.Inner.Rows.{pair, HasRow}
 use Rattle.fitting.specs.Inner.Pairs.{Storing, Stores}
-use Rattle.fitting.proofs.Joining.{pair-word}
 
 -- ---- a row written word by word
 pub record Written (ps : List ℕ) (at : ℕ) (row : List ℕ) (width : ℕ) (ps′ : List ℕ) (i : ℕ) : Type 0 where

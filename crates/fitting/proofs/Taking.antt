@@ -1,5 +1,5 @@
 -- Each value in turn is held against the node, and gets its bit if the node takes it.
-use Prim.Native.Nat.{ℕ, _+_, _*_, _/_, _≤_, _<_}
+use Prim.Native.Nat.{ℕ, _+_, _/_, _≤_, _<_}
 use mathlib.Core.Path.{_≡_, refl, sym, ap, _∙_, subst}
 use mathlib.Core.Bool.{Bool, true, false}
 use mathlib.Core.List.{List, map}
@@ -13,7 +13,7 @@ use Rattle.types.proofs.Tests.{true-false}
 use Rattle.bits.specs.Bits.{has, Put}
 use Rattle.bits.proofs.Sets.{has-none}
 use Rattle.fix_values.specs.Values as values
-use Rattle.fix_values.specs.Fix.{Fix, value-at}
+use Rattle.fix_values.specs.Fix.{Fix}
 use Rattle.fix_values.specs.Inner.{FixIn, InFix, ValueAt}
 use Rattle.fix_values.proofs.Checking.{held-is, held-few}
 use Rattle.fitting.specs.Fits.{node-takes}

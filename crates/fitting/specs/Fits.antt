@@ -1,7 +1,7 @@
 -- Which values of a fix fit which nodes of a type, sentence by sentence (02, A5).
 use Prim.Native.Nat.{ℕ, _-_}
 use mathlib.Core.Bool.{Bool, true, false, not, _&&_, _||_}
-use mathlib.Core.List.{List, [], _∷_, map}
+use mathlib.Core.List.{List, [], _∷_}
 use lib.ListN.{length, drop}
 use lib.Dec.{eqb}
 use Rattle.types.specs.Node.{positive, negative, Field, field, primitive, list, lambda, attrset, named, Tag, members, bound, var, neg, form}
@@ -84,8 +84,8 @@ set-takes fs d o ts (value (values.set ns) cs) =
     none-missing fs ns && fields-pass (field-test fs ts (other-test d o (drop (length fs) ts))) ns cs
 
 -- what a node takes, from its tag and what its children take: a union needs one member to fit, an intersection all; no value fits a lambda;
--- `Named` is its inner type; `Neg` takes exactly what its inner type doesn't; `never` takes nothing and `any` all. A type with a variable is
--- refused before, and so a variable takes nothing
+-- `Named` is its inner type; `Neg` takes exactly what its inner type doesn't; `never` takes nothing and `any` all. A type with a variable
+-- is refused before, and so a variable takes nothing
 unfoldable pub node-takes : Fix → Tag → List Test → Test
 unfolding some-pass all-pass primitive-takes list-takes set-takes value-at
 node-takes f (members positive) ts v = some-pass ts v

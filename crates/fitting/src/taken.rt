@@ -53,9 +53,11 @@ fn attr_set_takes(node: &[u32], pairs: &[u64], width: usize, value: &[u32]) -> b
     ensures { λ r. ⌜ SetTakes (now (node .entry)) (now (value .entry)) (now (pairs .entry)) width r ⌝ }
 {
     let head = Head { word: node[0] };
+    let opened = head.opened();
+    let dynamic = head.dynamic();
     let body = &node[1..];
-    if !head.dynamic() {
-        return set_takes(body, value, pairs, width, Other::Open(head.opened()));
+    if !dynamic {
+        return set_takes(body, value, pairs, width, Other::Open(opened));
     }
     let last = body.len() - 1;
     let other = Other::Type(child(body[last]));

@@ -1,19 +1,18 @@
 -- The words of a fix and its values say the same: what is read is well, and its words are those that were read; and the words of good values are read value by value.
 use Prim.Native.Nat.{ℕ, zero, suc, _+_, _-_, _^_, _≤_, _<_}
-use mathlib.Core.Path.{_≡_, refl, sym, ap, _∙_, subst}
-use mathlib.Core.Bool.{Bool, true, false, _&&_}
+use mathlib.Core.Path.{_≡_, refl, sym, ap, _∙_}
+use mathlib.Core.Bool.{Bool, true, false}
 use mathlib.Core.List.{List, [], _∷_, _++_, append-assoc, append-nil}
 use mathlib.Core.Option.{Option, none, some}
 use native.Mathlib.Omega.{arith}
 use lib.ListN.{length, getD, take, drop, take-append-drop, length-append}
 use lib.Seq.{take-append-seam, drop-append-seam}
 use Rattle.words.specs.Words.{head-count}
-use Rattle.types.proofs.Nodes.{cons, length-child-words}
-use Rattle.types.proofs.Tests.{true-false, and-true, both, numbers-true}
-use Rattle.fix_values.specs.Values.{Value, value, shape, children, body, encode, well, guess, is-value}
-use Rattle.fix_values.specs.Fix.{Fix, value-at, flat, good, read, fix-of}
-use Rattle.fix_values.specs.Theorems.{IsFix, FixEncode, Decoded, FixDecode}
-use Rattle.fix_values.proofs.ValueWords.{Well, well-parts, head-reads, guess-encode, encode-value}
+use Rattle.types.proofs.Tests.{and-true, both, numbers-true}
+use Rattle.fix_values.specs.Values.{Value, value, body, encode, well, guess, is-value}
+use Rattle.fix_values.specs.Fix.{Fix, flat, good, read, fix-of}
+use Rattle.fix_values.specs.Theorems.{FixEncode, FixDecode}
+use Rattle.fix_values.proofs.ValueWords.{well-parts, head-reads, guess-encode, encode-value}
 
 -- ---- one value of words that are read
 -- words of a value are those of the value that they give

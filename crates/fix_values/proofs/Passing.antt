@@ -5,7 +5,7 @@ use mathlib.Core.Bool.{Bool, true, false, not, _&&_}
 use mathlib.Core.List.{List, [], _∷_}
 use native.Mathlib.Omega.{arith}
 use native.Mathlib.Numerals.{add-one}
-use lib.ListN.{length, getD, take, drop, length-drop, drop-of-length-le}
+use lib.ListN.{length, getD, take, drop, drop-of-length-le}
 use lib.Seq.{drop-cons, take-all}
 use lib.Dec.{eqb, ltb, leb}
 use borrow.Author.Tests.{lt-ltb, le-ltb, eq-eqb, ne-eqb, not-true, not-false}
@@ -13,8 +13,7 @@ use mir.Syntax.{w32, w64}
 use mir.Val.{Fits}
 use Rattle.words.specs.Words.{head-kind, head-open, head-dynamic, head-zero, head-count, field-optional, field-name, field-zero, child}
 use Rattle.types.specs.Node.{below}
-use Rattle.types.proofs.Lists.{below-by, below-cons}
-use Rattle.types.proofs.Nodes.{cons}
+use Rattle.types.proofs.Lists.{below-by}
 use Rattle.fix_values.specs.Values.{is-value, well, guess, encode}
 use Rattle.fix_values.specs.Inner.{field-good, fields-good, body-good}
 use Rattle.fix_values.proofs.ValueWords.{bodied-by, words-good, words-value}

@@ -1,6 +1,6 @@
 -- The words of a value: the tests of its fields, as the program makes them, are `is-value`; and its words give a value that may stand there back.
-use Prim.Native.Nat.{ℕ, suc, _^_, _%_, _≤_, _<_}
-use mathlib.Core.Path.{_≡_, refl, sym, ap, _∙_, subst}
+use Prim.Native.Nat.{ℕ, _^_, _≤_, _<_}
+use mathlib.Core.Path.{_≡_, refl, sym, ap, _∙_}
 use mathlib.Core.Bool.{Bool, true, false, not, _&&_}
 use mathlib.Core.List.{List, [], _∷_, map}
 use native.Mathlib.Omega.{arith}
@@ -9,18 +9,17 @@ use lib.ListN.{length, take, length-map}
 use lib.Seq.{take-length}
 use lib.Dec.{eqb, ltb}
 use borrow.Author.Tests.{ltb-true, ltb-false, eqb-true, lt-ltb, le-ltb, le-leb, eq-eqb, ne-eqb, not-true}
-use Rattle.words.specs.Words.{head-word, head-kind, head-open, head-dynamic, head-zero, head-count, field-name, child, HeadFits}
+use Rattle.words.specs.Words.{head-word, head-kind, head-open, head-dynamic, head-zero, head-count, field-name, child}
 use Rattle.words.specs.Theorems.{HeadMade}
 use Rattle.words.specs.declared.Layout.the-variants as layout
 use Rattle.words.proofs.Words.{head-made, head-of-fields}
-use Rattle.types.specs.Same.{same-numbers}
-use Rattle.types.specs.Node.{Field, field, field-of, field-names, child-words, child-words-in, below, rising}
+use Rattle.types.specs.Node.{field, field-of, field-names, child-words, child-words-in, below, rising}
 use Rattle.types.proofs.Lists.{below-cons, below-more}
 use Rattle.types.proofs.Nodes.{nil, cons, length-child-words, children-back-in, fields-back}
 use Rattle.types.proofs.Tests.{true-false, and-true, both, same-truth, numbers-true, numbers-if}
-use Rattle.fix_values.specs.Values.{Shape, plain, list, set, Value, value, shape, children, kind, names, body, encode, matched, well, shape-of, guess, is-value}
+use Rattle.fix_values.specs.Values.{Shape, plain, list, set, Value, value, kind, names, body, encode, matched, well, shape-of, guess, is-value}
 use Rattle.fix_values.specs.Inner.{fields-good, body-good}
-use Rattle.fix_values.proofs.Fields.{made, Fields, from, fields-read, fields-test}
+use Rattle.fix_values.proofs.Fields.{from, fields-read, fields-test}
 
 -- ---- what `well` says, part by part
 pub record Well (table values : ℕ) (s : Shape) (cs : List ℕ) : Type 0 where

@@ -11,8 +11,8 @@ use Rattle.types.specs.Node.{below}
 use Rattle.fix_values.specs.Values.{encode, guess, is-value}
 use Rattle.fix_values.specs.Fix.{Fix, value-at, fix-of}
 
--- the sentences on a field word, read off its fields: optional and zero are 0, the name is one of the table's from `low` on, the child is an
--- earlier value
+-- the sentences on a field word, read off its fields: optional and zero are 0, the name is one of the table's from `low` on, the child is
+-- an earlier value
 unfoldable pub field-good : ℕ → ℕ → ℕ → ℕ → Bool
 unfolding field-optional field-name field-zero child
 field-good table values low w =

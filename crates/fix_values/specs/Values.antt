@@ -6,7 +6,7 @@ use lib.ListN.{length}
 use lib.Dec.{eqb, ltb}
 use Rattle.words.specs.Words.{head-word, head-kind, field-name, child}
 use Rattle.types.specs.Same.{same-numbers}
-use Rattle.types.specs.Node.{Field, field, child-words, child-words-in, below, rising}
+use Rattle.types.specs.Node.{field, child-words, child-words-in, below, rising}
 
 -- what a value is besides its children: one of the first six kinds (null, bool, int, float, string, path), by its number; a list; a set, by
 -- the numbers of its names

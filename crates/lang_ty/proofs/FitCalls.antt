@@ -1,5 +1,5 @@
 -- What `fits` answers of a type that was copied or imported is what it answers of the type it came from: `structurally_eq` tells that the two have one tree, and so have the two fixes.
-use Prim.Native.Nat.{ℕ, _-_, _<_}
+use Prim.Native.Nat.{ℕ, _-_}
 use mathlib.Core.Path.{_≡_, refl, sym, ap, ap₂, _∙_, subst, subst₂}
 use mathlib.Core.Bool.{Bool, true, false}
 use mathlib.Core.List.{List}
@@ -7,30 +7,19 @@ use mathlib.Core.Option.{Option, none, some}
 use native.Mathlib.Omega.{arith}
 use lib.ListN.{length}
 use Rattle.types.specs.Out.{Out, ok, refuse, required}
-use Rattle.types.specs.Arena.{Arena}
 use Rattle.types.specs.declared.Counters.{Counters}
-use Rattle.types.proofs.Replies.{rooted-yes}
 use Rattle.names.specs.Table.{Name}
 use Rattle.soundness.specs.Inner.Sides.{Side}
-use Rattle.soundness.proofs.Sides.{side-to}
 use Rattle.fix_values.specs.Fix.{Fix, fix-of}
 use Rattle.fix_values.proofs.Fixes.{fix-decode}
 use Rattle.fitting.specs.Fits.{fits}
-use Rattle.fits.specs.Fits.{fits-type, fits-root, fits-reply}
+use Rattle.fits.specs.Fits.{fits-type, fits-reply}
+use Rattle.fits.proofs.NoRoll.{answered}
 use Rattle.lang_ty.specs.FixTrees.{fix-tree}
 use Rattle.lang_ty.specs.Theorems.{FitsCompact, SameFix, FitsImport}
 use Rattle.lang_ty.proofs.Copies.{OneTree, one-tree, compact-equal}
 use Rattle.lang_ty.proofs.Imports.{import-equal}
 use Rattle.lang_ty.proofs.FitTrees.{fits-by-trees, vars-by-trees}
-
--- ---- the answer, from what the words hold
-module _ {t w s : List ℕ} {c : Counters} (S : Side t w s c) (root : ℕ) (l : root < length (S .view)) (ws : List ℕ) (o : Option Fix) (e : fix-of (length (S .names)) ws ≡ o) where
-  answered : fits-reply t w s c root ws ≡ required 13 o (fits-type (S .view) root)
-  unfolding fits-reply fits-root
-  answered =
-      sym (side-to S (λ (ns : List Name). fits-root (length ns) root ws))
-      ∙ rooted-yes root (λ (a : Arena). required 13 (fix-of (length (S .names)) ws) (fits-type a root)) (S .view) l
-      ∙ ap (λ (x : Option Fix). required 13 x (fits-type (S .view) root)) e
 
 -- a table has one list of names
 one-table : {o : Option (List Name)} {ns ms : List Name} → o ≡ some ns → o ≡ some ms → ns ≡ ms
@@ -51,7 +40,7 @@ module _ {t w s : List ℕ} {c : Counters} {m : ℕ} {u v r : List ℕ} {d : Cou
 
   replies-alike : fits-reply u v r d n xs ≡ fits-reply t w s c m ws
   unfolding required
-  replies-alike = answered (O .right) n (O .right-inside) xs _ (F .right-is) ∙ types-alike ∙ sym (answered (O .left) m (O .left-inside) ws _ (F .left-is))
+  replies-alike = answered (O .right) n (O .right-inside) xs (F .right-is) ∙ types-alike ∙ sym (answered (O .left) m (O .left-inside) ws (F .left-is))
 
 -- ---- the theorems
 pub fits-compact : FitsCompact
@@ -68,7 +57,7 @@ fits-compact t w s c root tw ts d m d′ tw′ ts′ e ws = go (fix-of (length (
     same = one-table (S .is) (O .right .is)
 
     go : (o : Option Fix) → fix-of (length (S .names)) ws ≡ o → fits-reply t tw′ ts′ d′ m ws ≡ fits-reply t w s c root ws
-    go none p = answered (O .right) m (O .right-inside) ws none (subst (λ (ns : List Name). fix-of (length ns) ws ≡ none) same p) ∙ sym (answered S root (O .left-inside) ws none p)
+    go none p = answered (O .right) m (O .right-inside) ws (subst (λ (ns : List Name). fix-of (length ns) ws ≡ none) same p) ∙ sym (answered S root (O .left-inside) ws p)
     go (some f) p =
         replies-alike O ws ws (record { left = f; left-is = p; right = f; right-is = subst (λ (ns : List Name). fix-of (length ns) ws ≡ some f) same p; same = ap (λ (ns : List Name). fix-tree ns f) same })
 

@@ -1,11 +1,11 @@
 -- The tree of a value of a fix, from its children's trees: values that are added keep the trees of those before them.
-use Prim.Native.Nat.{ℕ, suc, _^_, _<_}
+use Prim.Native.Nat.{ℕ, suc, _<_}
 use mathlib.Core.Path.{_≡_, refl, sym, ap, _∙_}
 use mathlib.Core.Bool.{Bool, true, false}
 use mathlib.Core.List.{List, [], _∷_, map}
 use native.Mathlib.Omega.{arith}
 use lib.ListN.{length}
-use lib.Dec.{eqb, ltb}
+use lib.Dec.{eqb}
 use borrow.Author.Tests.{eqb-false, ne-eqb}
 use Rattle.types.specs.Node.{below}
 use Rattle.types.proofs.Tests.{and-true}
@@ -15,6 +15,7 @@ use Rattle.names.specs.Table.{Name}
 use Rattle.equal.specs.Equal.{over}
 use Rattle.fix_values.specs.Values.{Value, value, shape, children, names, matched, well}
 use Rattle.fix_values.specs.Fix.{Fix, value-at, good}
+use Rattle.fix_values.proofs.ValueWords.{well-parts}
 use Rattle.lang_ty.specs.FixTrees.{value-label, value-tree}
 
 -- what is known of the value y, which is value v of f
@@ -33,17 +34,14 @@ module _ (ns : List Name) where
   trees-grow x f cs l = map-below (value-tree ns f) (value-tree ns (x ∷ f)) (length f) cs l (λ c k. sym (tree-grow x f c k))
 
   known-new : (x : Value) (f : Fix) (v : ℕ) → eqb v (length f) ≡ true → well (length ns) (length f) x ≡ true → Known ns (x ∷ f) v x
-  unfolding value-tree well
+  unfolding value-tree
   known-new (value s cs) f v e w =
-      let p = and-true (matched s (length cs)) _ w in
-      let q = and-true (ltb (length cs) (2 ^ 16)) _ (p .1) in
-      let r = and-true (below (length f) cs) _ (q .1) in
-      let i = and-true (below (length ns) (names s)) _ (r .1) in
+      let W = well-parts (length ns) (length f) s cs w in
       record {
-        tree = rw (value-tree, e) (ap (over (value-label ns s)) (trees-grow (value s cs) f cs (r .0)));
-        matches = p .0;
-        low = below-more (length f) (suc (length f)) cs (omega arith) (r .0);
-        inside = i .0;
+        tree = rw (value-tree, e) (ap (over (value-label ns s)) (trees-grow (value s cs) f cs (W .linked)));
+        matches = W .matches;
+        low = below-more (length f) (suc (length f)) cs (omega arith) (W .linked);
+        inside = W .named;
       }
 
   known-old : (x : Value) (f : Fix) (v : ℕ) (y : Value) → eqb v (length f) ≡ false → Known ns f v y → Known ns (x ∷ f) v y

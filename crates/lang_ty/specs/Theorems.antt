@@ -144,7 +144,8 @@ PlainPrintsAlike =
     → display-nix-reply t w s c root b ≡ display-reply t w s c root b
 
 -- of what each call is defined to answer the number is 0 exactly for a value, and at most 10, but for `convert_sheet` 0 or 11, for
--- `import_from_arena` at most 10 or 12, and for `fits` at most 10 or 13 or 14. A call that is never refused isn't listed: it always answers 0
+-- `import_from_arena` at most 10 or 12, and for `fits` at most 10 or 13 or 14. A call that is never refused isn't listed: it always
+-- answers 0
 pub record AllNumbered : Type 1 where
   pub table : (t : List ℕ) → Numbered (table-reply t)
   pub name : (t : List ℕ) (number : ℕ) → Numbered (name-reply t number)

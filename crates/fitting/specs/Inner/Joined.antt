@@ -1,5 +1,5 @@
 -- How a row is joined from the rows of children.
-use Prim.Native.Nat.{ℕ, _+_, _*_, _<_, _≤_, _^_, _-_}
+use Prim.Native.Nat.{ℕ, _*_, _<_, _≤_}
 use mathlib.Core.Path.{_≡_}
 use mathlib.Core.Bool.{Bool, true, false, _&&_, _||_, xor}
 use mathlib.Core.List.{List, [], _∷_, map}
@@ -22,7 +22,10 @@ all-or-none false = replicate 16 0
 
 -- what becomes of a value that a row has or not, where a child's row has it or not
 unfoldable pub join : ℕ → Bool → Bool → Bool
-join k x y = elim (eqb k (disc kinds.intersection)) [ true ↦ x && y | false ↦ elim (eqb k (disc kinds.neg)) [ true ↦ xor x y | false ↦ x || y ] ]
+join k x y = elim (eqb k (disc kinds.intersection)) [
+  | true ↦ x && y
+  | false ↦ elim (eqb k (disc kinds.neg)) [ true ↦ xor x y | false ↦ x || y ]
+]
 
 -- the same for all children
 unfoldable pub join-all : ℕ → Bool → List Bool → Bool

@@ -5,8 +5,14 @@ use borrow.Author.Needs.{needs}
 use Rattle.fitting.proofs.taken.attr_set_takes.Statement.{statement}
 use Rattle.fitting.proofs.taken.attr_set_takes.Tie as tie
 
-shared-slice-read-t10 : tie.Need-shared-slice-read-t10
-shared-slice-read-t10 c = search set-some
+shared-slice-read-t12 : tie.Need-shared-slice-read-t12
+shared-slice-read-t12 c = search set-some
+
+opened-requires : tie.Need-opened-requires
+opened-requires c κs = search needs
+
+dynamic-requires : tie.Need-dynamic-requires
+dynamic-requires c κs = search needs
 
 sub-body : tie.Need-sub-body
 sub-body c = search set-some
@@ -16,12 +22,6 @@ part-body-start c = search set-some
 
 part-body-end : tie.Need-part-body-end
 part-body-end c = search needs
-
-dynamic-requires : tie.Need-dynamic-requires
-dynamic-requires c κs = search needs
-
-opened-requires : tie.Need-opened-requires
-opened-requires c κs = search needs
 
 set-takes-requires : tie.Need-set-takes-requires
 set-takes-requires c κs = search (open-asks, body-lent)
@@ -54,12 +54,12 @@ pub attr-set-takes-spec : {M : Type 1} → statement M
 attr-set-takes-spec =
     tie.close
     (tie.spec
-    shared-slice-read-t10
+    shared-slice-read-t12
+    opened-requires
+    dynamic-requires
     sub-body
     part-body-start
     part-body-end
-    dynamic-requires
-    opened-requires
     set-takes-requires
     returns
     sub-last
