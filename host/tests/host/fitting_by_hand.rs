@@ -236,7 +236,7 @@ fn judged(t: &TypeArena, nodes: &[OutputTy], names: &[String], root: TyRef, word
 fn random_fixes() {
     let mut random = Random::new(5);
     let mut met = HashMap::new();
-    for _ in 0..4_000 {
+    for _ in 0..1_000 {
         let table = some_names(&mut random);
         let names: Vec<String> = table.iter().cloned().collect();
         let nodes = any_types(&mut random, &names);
