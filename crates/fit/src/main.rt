@@ -27,7 +27,8 @@ fn answer_fix(
     bytes: &[u8],
 ) -> Asked
     requires { ⌜ SheetIn (now table) (now words) (now starts) c root ⌝ }
-    ensures { λ r. ⌜ AnswersFix (now (table .entry)) (now (words .entry)) (now (starts .entry)) c root (now (bytes .entry)) (asked-out r) ⌝ }
+    ensures { λ r. ⌜ AnswersFix (now (table .entry)) (now (words .entry)) (now (starts .entry)) c root (now (bytes .entry))
+        (asked-out r) ⌝ }
 {
     if bytes.len() > 524288 {
         return Asked::Refused(10);

@@ -11,7 +11,8 @@ ghost use Rattle.words.specs.Words.{field-name, child};
 ghost use Rattle.types.specs.Node.{field-of};
 ghost use Rattle.fitting.specs.Fits.{none-missing, fields-pass};
 ghost use Rattle.fitting.specs.Inner.Rows.{pair, HasPair};
-ghost use Rattle.fitting.specs.Inner.Sets.{other-of, Seeks, CanAsk, Asks, FieldTakes, BothRise, OtherAsks, named-at, test-of, words-take};
+ghost use Rattle.fitting.specs.Inner.Sets.{other-of, Seeks, CanAsk, Asks, FieldTakes, BothRise, OtherAsks, named-at};
+ghost use Rattle.fitting.specs.Inner.Sets.{test-of, words-take};
 
 // What a field that the type doesn't name must fit: the dynamic type, or nothing if the set is open.
 pub enum Other {
