@@ -251,6 +251,6 @@ fn random_fixes() {
         let answer = judged(&t, &nodes, &names, root, &packed.words);
         *met.entry(answer).or_insert(0) += 1;
     }
-    let often = met.values().all(|&often| often > 300);
+    let often = met.values().all(|&often| often > 75);
     assert!(met.len() == 4 && often, "{met:?}");
 }
