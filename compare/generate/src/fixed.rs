@@ -377,7 +377,7 @@ fn ladder(steps: u32) -> (Build, u32) {
     (arena, pair.0)
 }
 
-/// A union of two unions that have so many different members together, none of them removable.
+/// A union of two unions that have so many different members together, none of them removable, and of repeats behind them.
 fn spliced(different: u32) -> (Build, u32) {
     let mut arena = leaves(2);
     let mut member = |index| {
@@ -387,7 +387,8 @@ fn spliced(different: u32) -> (Build, u32) {
     let members: Vec<u32> = (0..different).map(&mut member).collect();
     let first = arena.put(Node::Union(members[..40].to_vec()));
     let second = arena.put(Node::Union(members[30..].to_vec()));
-    over(arena, vec![Node::Union(vec![first, second])])
+    let root = Node::Union(vec![first, second, members[0], first]);
+    over(arena, vec![root])
 }
 
 /// A chain that fills all 4,096 nodes.

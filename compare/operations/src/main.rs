@@ -8,9 +8,9 @@
 //!                                operation, which of the three, how many calls
 //!
 //! A file has cases of operation 8 (docs/COMPARISON.md), a sheet each. The types of a file `changing` must become others by
-//! each operation that rewrites, and those alone run on them; on files `alike` and `unlike` (src/bin/alike.rs) `unwrap_named`
-//! alone does, and on those of src/bin/fixes.rs, which have cases of operation 27, also `fits`. On all these ours runs in full
-//! buffers alone.
+//! each operation that rewrites, and those alone run on them; on files `long` and `repeated` `simplify` and `normalize_set_ops`
+//! alone do; on files `alike` and `unlike` (src/bin/alike.rs) `unwrap_named` alone, and on those of src/bin/fixes.rs, which
+//! have cases of operation 27, also `fits`. On all these ours runs in full buffers alone.
 
 mod ours;
 mod side;
@@ -39,6 +39,9 @@ const ROUND: Duration = Duration::from_millis(4);
 fn few(path: &str) -> Option<fn(Operation) -> bool> {
     match path {
         "changing" => Some(Operation::rewrites),
+        "long" | "repeated" => {
+            Some(|one| matches!(one, Operation::Simplify | Operation::NormalizeSetOps))
+        }
         "alike" | "unlike" => Some(|one| one == Operation::UnwrapNamed),
         "drive" | "nested" | "unions" | "wide" => {
             Some(|one| matches!(one, Operation::UnwrapNamed | Operation::Fits))

@@ -98,6 +98,29 @@ unfolding count-below
 count-same f g zero h = refl
 count-same f g (suc n) h = let r = count-same f g n (λ m l. h m (omega arith)) in λ k. elim (h n (omega arith) k) as (λ _. ℕ) [ true ↦ suc (r k) | false ↦ r k ]
 
+pub count-none : (n : ℕ) → count-below (λ m. false) n ≡ 0
+unfolding count-below
+count-none zero = refl
+count-none (suc n) = count-none n
+
+-- one number more passes
+pub count-more : (f g : ℕ → Bool) (n m : ℕ) → n < m → f n ≡ false → g n ≡ true → ((c : ℕ) → (c ≡ n → ⊥) → g c ≡ f c) → count-below g m ≡ suc (count-below f m)
+unfolding count-below
+count-more f g n zero l p q h = absurd (omega arith)
+count-more f g n (suc m) l p q h = go (ℕ-discrete m n) (λ k. count-more f g n m k p q h)
+  where
+    one-later : (x : ℕ) (b : Bool) → elim b as (λ _. ℕ) [ true ↦ suc (suc x) | false ↦ suc x ] ≡ suc (elim b as (λ _. ℕ) [ true ↦ suc x | false ↦ x ])
+    one-later x true = refl
+    one-later x false = refl
+
+    go : Dec (m ≡ n) → (n < m → count-below g m ≡ suc (count-below f m)) → count-below g (suc m) ≡ suc (count-below f (suc m))
+    go (yes e) r = ap (λ (b : Bool). elim b as (λ _. ℕ) [ true ↦ suc (count-below g m) | false ↦ count-below g m ]) (ap g e ∙ q)
+        ∙ ap suc (count-same g f m (λ c k. h c (λ z. omega (arith, z, e, k))))
+        ∙ sym (ap (λ (b : Bool). suc (elim b as (λ _. ℕ) [ true ↦ suc (count-below f m) | false ↦ count-below f m ])) (ap f e ∙ p))
+    go (no e) r =
+        let before = r (omega (arith, e, l)) in
+        (λ k. elim (h m e k) as (λ _. ℕ) [ true ↦ suc (before k) | false ↦ before k ]) ∙ one-later (count-below f m) (f m)
+
 -- the same of a whole row
 pub count-rows : CountRows
 unfolding count-below sum-ones

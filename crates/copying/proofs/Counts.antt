@@ -1,10 +1,10 @@
 -- How many nodes of the source have a copy: as many as the target has nodes, and each node that is added to it is the copy of one more.
-use Prim.Native.Nat.{ℕ, zero, suc, _<_}
+use Prim.Native.Nat.{ℕ, suc, _<_}
 use mathlib.Core.Path.{_≡_, refl, sym, ap, _∙_, subst}
 use mathlib.Core.Bool.{Bool, true, false, _||_}
 use mathlib.Core.List.{[], _∷_}
 use native.Mathlib.Omega.{arith}
-use native.Mathlib.Decide.{ℕ-discrete, decLt}
+use native.Mathlib.Decide.{decLt}
 use lib.ListN.{length}
 use lib.Dec.{eqb}
 use borrow.Author.Tests.{eqb-true, eq-eqb, ne-eqb}
@@ -12,35 +12,11 @@ use Rattle.types.specs.Node.{Node}
 use Rattle.types.specs.Arena.{Arena, sound, here, more}
 use Rattle.types.proofs.Tests.{true-false}
 use Rattle.bits.specs.Bits.{count-below}
-use Rattle.bits.proofs.Sets.{count-same}
+use Rattle.bits.proofs.Sets.{count-none, count-more}
 use Rattle.walks.proofs.Counting.{or-left}
 use Rattle.walks.proofs.Reaching.{or-right}
 use Rattle.copying.specs.Theorems.{CopyOf}
 use Rattle.copying.proofs.Copies.{copy-inside, copy-later, copy-older, copy-one, copy-injective}
-
--- ---- counts
-count-none : (n : ℕ) → count-below (λ c. false) n ≡ 0
-unfolding count-below
-count-none zero = refl
-count-none (suc n) = count-none n
-
--- one number more passes
-count-more : (f g : ℕ → Bool) (n m : ℕ) → n < m → f n ≡ false → g n ≡ true → ((c : ℕ) → (c ≡ n → ⊥) → g c ≡ f c) → count-below g m ≡ suc (count-below f m)
-unfolding count-below
-count-more f g n zero l p q h = absurd (omega arith)
-count-more f g n (suc m) l p q h = go (ℕ-discrete m n) (λ k. count-more f g n m k p q h)
-  where
-    go : Dec (m ≡ n) → (n < m → count-below g m ≡ suc (count-below f m)) → count-below g (suc m) ≡ suc (count-below f (suc m))
-    go (yes e) r = ap (λ (b : Bool). elim b as (λ _. ℕ) [ true ↦ suc (count-below g m) | false ↦ count-below g m ]) (ap g e ∙ q)
-        ∙ ap suc (count-same g f m (λ c k. h c (λ z. omega (arith, z, e, k))))
-        ∙ sym (ap (λ (b : Bool). suc (elim b as (λ _. ℕ) [ true ↦ suc (count-below f m) | false ↦ count-below f m ])) (ap f e ∙ p))
-    go (no e) r = each (g m) (f m) (h m e) (r (omega (arith, e, l)))
-      where
-        each : (x y : Bool) → x ≡ y → count-below g m ≡ suc (count-below f m) → elim x as (λ _. ℕ) [ true ↦ suc (count-below g m) | false ↦ count-below g m ] ≡ suc (elim y as (λ _. ℕ) [ true ↦ suc (count-below f m) | false ↦ count-below f m ])
-        each true true z k = ap suc k
-        each false false z k = k
-        each true false z k = absurd (true-false z)
-        each false true z k = absurd (true-false (sym z))
 
 -- ---- the nodes that have a copy
 pub record Copied (u a : Arena) (c : ℕ) : Type 0 where

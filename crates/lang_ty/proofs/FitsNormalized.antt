@@ -2,7 +2,7 @@
 -- some tests exactly if a member does. What the run leaves has room, and so the call `fits` finds it.
 use Prim.Native.Nat.{ℕ, _-_, _<_}
 use mathlib.Core.Path.{_≡_, refl, sym, ap, ap₂, _∙_, subst}
-use mathlib.Core.Bool.{Bool, true, false, not, _&&_, _||_, or-false, or-assoc, Bool·not-not as not-not}
+use mathlib.Core.Bool.{Bool, true, false, not, _&&_, _||_, or-false, Bool·not-not as not-not}
 use mathlib.Core.List.{List, [], _∷_, _++_, List·Memᴰ as Mem}
 use lib.ListN.{length}
 use lib.Dec.{eqb}
@@ -25,7 +25,7 @@ use Rattle.recursion.specs.Jobs.{Job}
 use Rattle.recursion.specs.Hosted.{work-reply}
 use Rattle.recursion.proofs.Answers.{ok-same, ok-refuse, bind-parts}
 use Rattle.simplification.specs.Pass.{one-of, first-copies, list-kind}
-use Rattle.simplification.proofs.Answers.{one-true, one-if}
+use Rattle.simplification.proofs.Answers.{one-true, one-if, one-append}
 use Rattle.copying.proofs.Rooms.{Roomy, Keeps, done-roomy, rebuild-keeps}
 use Rattle.member_sorting.specs.Sort.{sort}
 use Rattle.set_op_lists.specs.SetOps.{brings, flatten-set-op, stand-for, set-ops-step, normalize, normalize-set-ops}
@@ -42,11 +42,6 @@ use Rattle.lang_ty.proofs.Imports.{roomy}
 
 -- ---- one of a list passes
 module _ {A : Type 0} (p : A → Bool) where
-  one-append : (xs ys : List A) → one-of p (xs ++ ys) ≡ (one-of p xs || one-of p ys)
-  unfolding one-of
-  one-append [] ys = refl
-  one-append (x ∷ xs) ys = ap (λ (b : Bool). p x || b) (one-append xs ys) ∙ sym (or-assoc (p x) (one-of p xs) (one-of p ys))
-
   one-within : (xs ys : List A) → ((x : A) → Mem x xs → Mem x ys) → one-of p xs ≡ true → one-of p ys ≡ true
   one-within xs ys h e = let r = one-true p xs e in one-if p ys (r .0) (h (r .0) (r .1)) (r .2)
 

@@ -37,6 +37,7 @@ use Rattle.member_lists.specs.declared.Decision.{Decision}
 use Rattle.member_lists.specs.declared.Decision.the-variants as decision
 use Rattle.member_lists.specs.declared.growing.Grown.{Grown}
 use Rattle.member_lists.specs.declared.growing.Grown.the-variants as grown
+use Rattle.member_lists.proofs.MemberBits.{growing-none}
 use Rattle.member_lists.proofs.Copying.{room-length}
 
 -- ---- the items in use
@@ -100,10 +101,10 @@ module _ {w s : List ℕ} {c : Counters} {number : ℕ} {ms : List ℕ} where
   inside : Gathering w s c number ms → (table : ℕ) (a : Arena) → Holds table w s c a → Inside a ms
   inside G table a H = each-member (λ (m : ℕ). m < length a) (length ms) ms refl (λ i l. omega (arith, H .nodes, below-at (c .nodes) ms (G .low) i l))
 
-  pub open-flattens : Gathering w s c number ms → Flattening w s c number ms (replicate 64 0)
-  open-flattens G = record { gathering = G; long = refl }
+  pub open-flattens : Gathering w s c number ms → Flattening w s c number ms (replicate 64 0) (replicate 64 0)
+  open-flattens G = record { gathering = G; growing = growing-none }
 
-  module _ {items₀ items : List ℕ} {r : Grown} (F : Flattens w s c number ms items₀ 0 items r) where
+  module _ {items₀ met₀ items met : List ℕ} {r : Grown} (F : Flattens w s c number ms items₀ 0 met₀ items met r) where
     -- the list that was made, or 8
     made : (g : Grown) → r ≡ g → (table : ℕ) (a : Arena) (k : Polarity) → Holds table w s c a → number ≡ disc (kind (members k)) → member-list k a ms ≡ grown-out items g
     unfolding member-list
@@ -124,7 +125,7 @@ module _ {w s : List ℕ} {c : Counters} {number : ℕ} {ms : List ℕ} where
           let b = member-below (length a) (take count items) (brought-inside (G .lent .table) a (H .good) (G .side) ms (inside G (G .lent .table) a H) (take count items) m) in
           record {
             gathering = record { lent = G .lent; side = G .side; kind-is = G .kind-is; low = subst (λ (n : ℕ). below n (take count items) ≡ true) (sym (H .nodes)) b };
-            room = F .is (G .lent .table) a (G .side) H (G .kind-is) .room count f;
+            room = F .is (G .lent .table) a (G .side) H (G .kind-is) .growing count f .room;
           }
 
       pub open-finished : {w′ s′ : List ℕ} {o : Closed} → Finishes w s c number items count w′ s′ o → ClosesOpen w s c number ms w′ s′ o

@@ -1,3 +1,4 @@
+pub mod MemberBits
 pub mod Copying
 pub mod BoundKinds
 pub mod Splices

@@ -149,7 +149,8 @@ fn close_open(
         items: [0u32; 64],
         count: 0,
     };
-    let grown = flatten(words, starts, c, kind, members, &mut list.items);
+    let mut met = [0u64; 64];
+    let grown = flatten(words, starts, c, kind, members, &mut list.items, &mut met);
     let Grown::Count(count) = grown else {
         return Closed::Done(Interned::Refused(8));
     };

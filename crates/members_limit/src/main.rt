@@ -221,6 +221,7 @@ fn limits(kind: u32) {
     let three = head(kind, 3);
     let four = head(kind, 4);
     in_each_room(kind, b"64", &[two, FIRST, TO_64]);
+    in_each_room(kind, b"64 and repeats", &[three, FIRST, TO_64, FIRST]);
     in_each_room(kind, b"65", &[two, FIRST, TO_65]);
     in_each_room(kind, b"65 and the bound", &[three, FIRST, TO_65, BOUND]);
     in_each_room(kind, b"a new one and 65", &[three, NEW, FIRST, TO_65]);

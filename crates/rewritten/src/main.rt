@@ -93,6 +93,11 @@ fn deep() {
     chain(b"lambdas by body", true, Step::Body);
     chain(b"unions", false, Step::Child(Head::UNION, Head::UNION));
     chain(
+        b"intersections",
+        false,
+        Step::Child(Head::INTERSECTION, Head::INTERSECTION),
+    );
+    chain(
         b"unions and intersections",
         false,
         Step::Child(Head::UNION, Head::INTERSECTION),

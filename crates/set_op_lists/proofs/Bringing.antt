@@ -39,58 +39,58 @@ module _ (k : Polarity) (m : ℕ) (x : Node) where
 own-kind : {w s : List ℕ} {c : Counters} {m n own : ℕ} → n ≡ m → KindAt w s c n own → {table : ℕ} {a : Arena} → Holds table w s c a → own ≡ disc (kind (tag (at a m)))
 own-kind e K {table} {a} H = K .is table a H ∙ ap (λ (i : ℕ). disc (kind (tag (at a i)))) e
 
-module _ {w s : List ℕ} {c : Counters} {m : ℕ} {items : List ℕ} {count : ℕ} (S : Splicing w s c m items count) {n own : ℕ} (e : n ≡ m) (K : KindAt w s c n own) where
-  pub appends-members : {number : ℕ} → own ≡ number → {ws items′ : List ℕ} {r : Grown} → NodeAt w s c n ws → Grows items count (children-in ws) items′ r → Appends w s c number m items count items′ r
-  appends-members {number} q {ws} {items′} {r} N G = record {
+module _ {w s : List ℕ} {c : Counters} {m : ℕ} {items : List ℕ} {count : ℕ} {met : List ℕ} (S : Splicing w s c m items count met) {n own : ℕ} (e : n ≡ m) (K : KindAt w s c n own) where
+  pub appends-members : {number : ℕ} → own ≡ number → {ws items′ met′ : List ℕ} {r : Grown} → NodeAt w s c n ws → Grows items count met (children-in ws) items′ met′ r → Appends w s c number m items count met items′ met′ r
+  appends-members {number} q {ws} {items′} {met′} {r} N G = record {
     is = λ table a k H p.
         let t : tag (at a m) ≡ members k = list-told (tag (at a m)) k (sym (own-kind e K H) ∙ q ∙ p) in
         let l : m < length a = omega (arith, S .range .inside, H .nodes) in
         let z : children-in ws ≡ brings k m (at a m)
         = ap children-in (N .is table a H ∙ ap (λ (i : ℕ). encode (at a i)) e) ∙ children-encode (at a m) (at-formed table a (H .good) m l) ∙ sym (brings-list k m (at a m) t) in
-        subst (λ (xs : List ℕ). Grows items count xs items′ r) z G;
+        subst (λ (xs : List ℕ). Grows items count met xs items′ met′ r) z G;
   }
 
-  pub appends-itself : {number : ℕ} → (own ≡ number → ⊥) → {items′ : List ℕ} {r : Grown} → Grows items count (m ∷ []) items′ r → Appends w s c number m items count items′ r
-  appends-itself {number} f {items′} {r} G = record {
-    is = λ table a k H p. subst (λ (xs : List ℕ). Grows items count xs items′ r) (sym (brings-other k m (at a m) (λ t. f (own-kind e K H ∙ ap (λ u. disc (kind u)) t ∙ sym p)))) G;
+  pub appends-itself : {number : ℕ} → (own ≡ number → ⊥) → {items′ met′ : List ℕ} {r : Grown} → Grows items count met (m ∷ []) items′ met′ r → Appends w s c number m items count met items′ met′ r
+  appends-itself {number} f {items′} {met′} {r} G = record {
+    is = λ table a k H p. subst (λ (xs : List ℕ). Grows items count met xs items′ met′ r) (sym (brings-other k m (at a m) (λ t. f (own-kind e K H ∙ ap (λ u. disc (kind u)) t ∙ sym p)))) G;
   }
 
 -- ---- an outcome
-module _ {w s : List ℕ} {r : Interned} {number : ℕ} {items : List ℕ} {count : ℕ} (B : Bringing w s r number items count) where
-  pub passes-on : {e : ℕ} → r ≡ interned.Refused e → Brings w s r number items count items (brought.Refused e)
+module _ {w s : List ℕ} {r : Interned} {number : ℕ} {items : List ℕ} {count : ℕ} {met : List ℕ} (B : Bringing w s r number items count met) where
+  pub passes-on : {e : ℕ} → r ≡ interned.Refused e → Brings w s r number items count items met (brought.Refused e)
   passes-on {e} q = record {
     refused = λ x p. let z : e ≡ x = cc in ap brought.Refused z;
     node = λ m d p. let z : _≡_ {A = ℕ} 0 1 = cc in absurd (omega arith);
   }
 
   module _ {m : ℕ} {d : Counters} (q : r ≡ interned.Node m d) where
-    pub bring-ready : Splicing w s d m items count
-    bring-ready = record { range = B .range m d q; room = B .room }
+    pub bring-ready : Splicing w s d m items count met
+    bring-ready = record { range = B .range m d q; growing = B .growing }
 
-    module _ {items′ : List ℕ} {g : Grown} (A : Appends w s d number m items count items′ g) where
+    module _ {items′ met′ : List ℕ} {g : Grown} (A : Appends w s d number m items count met items′ met′ g) where
       -- for the one node that it is
-      as-node : {b : Brought} → BringsNode w s d number m items count items′ b → Brings w s r number items count items′ b
+      as-node : {b : Brought} → BringsNode w s d number m items count items′ met′ b → Brings w s r number items count items′ met′ b
       as-node {b} N = record {
         refused = λ x p. let z : _≡_ {A = ℕ} 0 1 = cc in absurd (omega arith);
         node = λ i f p.
             let x : m ≡ i = cc in
             let y : d ≡ f = cc in
-            subst (λ (j : ℕ). BringsNode w s f number j items count items′ b) x (subst (λ (h : Counters). BringsNode w s h number m items count items′ b) y N);
+            subst (λ (j : ℕ). BringsNode w s f number j items count items′ met′ b) x (subst (λ (h : Counters). BringsNode w s h number m items count items′ met′ b) y N);
       }
 
-      grows : Grows items count (brings (B .side) m (at (B .range m d q .lent .view) m)) items′ g
+      grows : Grows items count met (brings (B .side) m (at (B .range m d q .lent .view) m)) items′ met′ g
       grows = let L = B .range m d q .lent in A .is (L .table) (L .view) (B .side) (L .holds) (B .kind-is)
 
-      pub brings-more : {n : ℕ} → g ≡ grown.Count n → Brings w s r number items count items′ (brought.Held n d)
+      pub brings-more : {n : ℕ} → g ≡ grown.Count n → Brings w s r number items count items′ met′ (brought.Held n d)
       brings-more {n} p = as-node (record {
-        room = λ i f z. let x : n ≡ i = cc in grows .room i (p ∙ ap grown.Count x);
+        growing = λ i f z. let x : n ≡ i = cc in grows .growing i (p ∙ ap grown.Count x);
         counters = λ i f z. let y : d ≡ f = cc in y;
         is = λ table a k H u. ap (grown-out items′) (sym p) ∙ A .is table a k H u .is;
       })
 
-      pub brings-full : g ≡ grown.Full → Brings w s r number items count items′ (brought.Refused 8)
+      pub brings-full : g ≡ grown.Full → Brings w s r number items count items′ met′ (brought.Refused 8)
       brings-full p = as-node (record {
-        room = λ i f z. let x : _≡_ {A = ℕ} 0 1 = cc in absurd (omega arith);
+        growing = λ i f z. let x : _≡_ {A = ℕ} 0 1 = cc in absurd (omega arith);
         counters = λ i f z. let x : _≡_ {A = ℕ} 0 1 = cc in absurd (omega arith);
         is = λ table a k H u. ap (grown-out items′) (sym p) ∙ A .is table a k H u .is;
       })

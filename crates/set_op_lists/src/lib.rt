@@ -46,16 +46,18 @@ fn append_brought(
     kind: u32,
     m: u32,
     items: &mut [u32; 64],
+    met: &mut [u64; 64],
     count: usize,
 ) -> Grown
-    requires { ⌜ Splicing (now words) (now starts) c m (now items) count ⌝ }
-    ensures { λ r. ⌜ Appends (now (words .entry)) (now (starts .entry)) c kind m (now (items .entry)) count (now (items .exit)) r ⌝ }
+    requires { ⌜ Splicing (now words) (now starts) c m (now items) count (now met) ⌝ }
+    ensures { λ r. ⌜ Appends (now (words .entry)) (now (starts .entry)) c kind m (now (items .entry)) count (now (met .entry))
+        (now (items .exit)) (now (met .exit)) r ⌝ }
 {
     let n = wide(m);
     if kind_at(words, starts, c, n) == kind {
-        return append_children(node_at(words, starts, c, n), items, count);
+        return append_children(node_at(words, starts, c, n), items, met, count);
     }
-    append(items, count, m)
+    append(items, met, count, m)
 }
 
 // The same from a member's outcome: a refusal is passed on, and a 65th member is refused by 8.
@@ -65,15 +67,17 @@ pub fn bring(
     outcome: Interned,
     kind: u32,
     items: &mut [u32; 64],
+    met: &mut [u64; 64],
     count: usize,
 ) -> Brought
-    requires { ⌜ Bringing (now words) (now starts) outcome kind (now items) count ⌝ }
-    ensures { λ r. ⌜ Brings (now (words .entry)) (now (starts .entry)) outcome kind (now (items .entry)) count (now (items .exit)) r ⌝ }
+    requires { ⌜ Bringing (now words) (now starts) outcome kind (now items) count (now met) ⌝ }
+    ensures { λ r. ⌜ Brings (now (words .entry)) (now (starts .entry)) outcome kind (now (items .entry)) count (now (items .exit))
+        (now (met .exit)) r ⌝ }
 {
     let Interned::Node(m, d) = outcome else {
         return Brought::Refused(outcome.refusal());
     };
-    let grown = append_brought(words, starts, d, kind, m, items, count);
+    let grown = append_brought(words, starts, d, kind, m, items, met, count);
     let Grown::Count(next) = grown else {
         return Brought::Refused(8);
     };

@@ -28,7 +28,8 @@ use Rattle.recursion.specs.Inner.Work.{Grown, Leads, done, stop, Ready, Does}
 use Rattle.recursion.proofs.Answers.{ok-same}
 use Rattle.recursion.proofs.Leading.{holds-stands, stands-ext, leads-done, Stopped, stop-leads, reply-leads}
 use Rattle.simplification.specs.Pass.{first-copies}
-use Rattle.member_lists.specs.Inner.Members.{Room, Filled}
+use Rattle.member_lists.specs.Inner.Members.{Growing, Filled}
+use Rattle.member_lists.proofs.MemberBits.{growing-none}
 use Rattle.member_lists.proofs.Copying.{room-length}
 use Rattle.member_sorting.specs.Sort.{sort}
 use Rattle.set_op_lists.specs.SetOps.{brings, flatten-set-op, stand-for, normalize}
@@ -51,15 +52,15 @@ record Carried (table : ℕ) (a : Arena) (f : ℕ → Job) (size : ℕ) (k : Pol
   pub cache : Cache f size arena entries
   pub is : brings-then k acc g o ≡ g (take next items) arena
 
-module _ {table : ℕ} {a : Arena} {f : ℕ → Job} {size : ℕ} {w s entries : List ℕ} (k : Polarity) {number : ℕ} (q : number ≡ disc (kind (members k))) {items : List ℕ} {held : ℕ} {items′ : List ℕ} {b : Brought} (g : List ℕ → Arena → Out (List ℕ × Arena)) where
-  stopped : {r : Interned} {o : Out (ℕ × Arena)} → Leads table a f size w s entries r o → Brings w s r number items held items′ b → {v : ℕ} → b ≡ brought.Refused v → Stopped a w s v (brings-then k (take held items) g o)
+module _ {table : ℕ} {a : Arena} {f : ℕ → Job} {size : ℕ} {w s entries : List ℕ} (k : Polarity) {number : ℕ} (q : number ≡ disc (kind (members k))) {items : List ℕ} {held : ℕ} {items′ met′ : List ℕ} {b : Brought} (g : List ℕ → Arena → Out (List ℕ × Arena)) where
+  stopped : {r : Interned} {o : Out (ℕ × Arena)} → Leads table a f size w s entries r o → Brings w s r number items held items′ met′ b → {v : ℕ} → b ≡ brought.Refused v → Stopped a w s v (brings-then k (take held items) g o)
   unfolding _>>=_
   stopped (done {m = m} {d = d} {b = c} H E l C) B p =
       let e = B .node m d refl .is table c k H q in
       record { is = ap (λ (x : Out (List ℕ)). x >>= λ (l : List ℕ). g l c) (sym e ∙ ap (brought-out items′) p); stands = stands-ext E (holds-stands H) }
   stopped (stop {e = e} S) B {v} p = let z : e ≡ v = let y = sym (B .refused e refl) ∙ p in cc in record { is = ap refuse z; stands = S }
 
-  carried : {r : Interned} {o : Out (ℕ × Arena)} → Leads table a f size w s entries r o → Brings w s r number items held items′ b → {next : ℕ} {d : Counters} → b ≡ brought.Held next d
+  carried : {r : Interned} {o : Out (ℕ × Arena)} → Leads table a f size w s entries r o → Brings w s r number items held items′ met′ b → {next : ℕ} {d : Counters} → b ≡ brought.Held next d
       → Carried table a f size k (take held items) g w s entries items′ next d o
   unfolding _>>=_
   carried (done {m = m} {d = e} {b = c} H E l C) B {next} {d} p =
@@ -73,12 +74,12 @@ module _ {table : ℕ} {a : Arena} {f : ℕ → Job} {size : ℕ} {w s entries :
       }
   carried (stop {e = e} S) B p = let y = sym (B .refused e refl) ∙ p in let z : _≡_ {A = ℕ} 0 1 = cc in absurd (omega arith)
 
-  held-room : {r : Interned} {o : Out (ℕ × Arena)} → Leads table a f size w s entries r o → Brings w s r number items held items′ b → {next : ℕ} {d : Counters} → b ≡ brought.Held next d → Room items′ next
-  held-room (done {m = m} {d = e} H E l C) B {next} {d} p = B .node m e refl .room next d p
-  held-room (stop {e = e} S) B p = let y = sym (B .refused e refl) ∙ p in let z : _≡_ {A = ℕ} 0 1 = cc in absurd (omega arith)
+  held-growing : {r : Interned} {o : Out (ℕ × Arena)} → Leads table a f size w s entries r o → Brings w s r number items held items′ met′ b → {next : ℕ} {d : Counters} → b ≡ brought.Held next d → Growing items′ next met′
+  held-growing (done {m = m} {d = e} H E l C) B {next} {d} p = B .node m e refl .growing next d p
+  held-growing (stop {e = e} S) B p = let y = sym (B .refused e refl) ∙ p in let z : _≡_ {A = ℕ} 0 1 = cc in absurd (omega arith)
 
 -- the counters are those after the member, and the bits of every node are set then
-pub brought-covers : {w s f : List ℕ} {r : Interned} {number : ℕ} {items : List ℕ} {held : ℕ} {items′ : List ℕ} {b : Brought} → CoversAfter w s r f → Brings w s r number items held items′ b → {next : ℕ} {d : Counters} → b ≡ brought.Held next d → CoversLent w s d f
+pub brought-covers : {w s f : List ℕ} {r : Interned} {number : ℕ} {items : List ℕ} {held : ℕ} {items′ met′ : List ℕ} {b : Brought} → CoversAfter w s r f → Brings w s r number items held items′ met′ b → {next : ℕ} {d : Counters} → b ≡ brought.Held next d → CoversLent w s d f
 brought-covers {w} {s} {f} {r} C B {next} {d} p = go r refl
   where
     go : (x : Interned) → r ≡ x → CoversLent w s d f
@@ -94,13 +95,13 @@ pub record FlatIn (table : ℕ) (a : Arena) (f : ℕ → Job) (size : ℕ) (k : 
   pub cache : Cache f size arena entries
   pub same : flatten-set-op k f [] cs a ≡ flatten-set-op k f (take held items) (drop i cs) arena
 
-pub record FlatTurn (w₀ s₀ : List ℕ) (c₀ : Counters) (n number : ℕ) (entries₀ : List ℕ) (total : ℕ) (w s entries items : List ℕ) (held : ℕ) (last : Counters) (i : ℕ) : Type 0 where
+pub record FlatTurn (w₀ s₀ : List ℕ) (c₀ : Counters) (n number : ℕ) (entries₀ : List ℕ) (total : ℕ) (w s entries items : List ℕ) (held : ℕ) (met : List ℕ) (last : Counters) (i : ℕ) : Type 0 where
   pub ready : ListReady w₀ s₀ c₀ n number entries₀
   pub counted : MemberCount w₀ s₀ c₀ n total
   pub turn : i ≤ total
   pub words-long : length w ≡ length w₀
   pub starts-long : length s ≡ length s₀
-  pub room : Room items held
+  pub growing : Growing items held met
   pub there : (table : ℕ) (u a : Arena) → Holds table w₀ s₀ c₀ a → Ext u a → n < length u → Cache (normalize (length w₀) (length s₀) u) (length u) a entries₀
       → FlatIn table a (normalize (length w₀) (length s₀) u) (length u) (ready .side) (children (at u n)) w s entries items held last i
 
@@ -110,18 +111,18 @@ module _ {w₀ s₀ : List ℕ} {c₀ : Counters} {n number : ℕ} {entries₀ :
       let R = P .ready in
       record { lent = record { table = R .table; view = R .view; holds = R .holds }; inside = omega (arith, R .inside, ext-length (R .source) (R .view) (R .beside), R .holds .nodes) }
 
-  pub flat-start : {total : ℕ} → MemberCount w₀ s₀ c₀ n total → FlatTurn w₀ s₀ c₀ n number entries₀ total w₀ s₀ entries₀ (replicate 64 0) 0 c₀ 0
+  pub flat-start : {total : ℕ} → MemberCount w₀ s₀ c₀ n total → FlatTurn w₀ s₀ c₀ n number entries₀ total w₀ s₀ entries₀ (replicate 64 0) 0 (replicate 64 0) c₀ 0
   flat-start M = record {
     ready = P;
     counted = M;
     turn = omega arith;
     words-long = refl;
     starts-long = refl;
-    room = record { long = refl; few = omega arith };
+    growing = growing-none;
     there = λ table u a H E l C. record { arena = a; holds = H; ext = here; cache = C; same = refl };
   }
 
-module _ {w₀ s₀ : List ℕ} {c₀ : Counters} {n number : ℕ} {entries₀ : List ℕ} {total : ℕ} {w s entries items : List ℕ} {held : ℕ} {last : Counters} {i : ℕ} (T : FlatTurn w₀ s₀ c₀ n number entries₀ total w s entries items held last i) where
+module _ {w₀ s₀ : List ℕ} {c₀ : Counters} {n number : ℕ} {entries₀ : List ℕ} {total : ℕ} {w s entries items : List ℕ} {held : ℕ} {met : List ℕ} {last : Counters} {i : ℕ} (T : FlatTurn w₀ s₀ c₀ n number entries₀ total w s entries items held met last i) where
   -- the arena that is known to be held, and its turn
   now : let R = T .ready .ready in FlatIn (R .table) (R .view) (normalize (length w₀) (length s₀) (R .source)) (length (R .source)) (T .ready .side) (children (at (R .source) n)) w s entries items held last i
   now = let R = T .ready .ready in T .there (R .table) (R .source) (R .view) (R .holds) (R .beside) (R .inside) (R .cache)
@@ -160,7 +161,7 @@ module _ {w₀ s₀ : List ℕ} {c₀ : Counters} {n number : ℕ} {entries₀ :
         let y = child-lower (R .table) (R .source) g n (R .inside) i (omega (arith, h, total-is (R .holds) (R .beside) (R .inside))) in
         omega (arith, y, member-is (R .holds) (R .beside) (R .inside) (R .cache))
 
-    pub flat-falls : {t : ℕ} → 3 * n ≡ t → 3 * x + 2 < t
+    pub flat-falls : {t : ℕ} → 4 * n ≡ t → 4 * x + 3 < t
     flat-falls q = omega (arith, lower, q)
 
     -- the limits are as at the start
@@ -181,7 +182,7 @@ module _ {w₀ s₀ : List ℕ} {c₀ : Counters} {n number : ℕ} {entries₀ :
         }
 
     module _ {w′ s′ entries′ : List ℕ} {r : Interned} (D : Does normalize Grown w s last x entries w′ s′ entries′ r) where
-      pub flat-brings : Bringing w′ s′ r number items held
+      pub flat-brings : Bringing w′ s′ r number items held met
       flat-brings = record {
         side = T .ready .side;
         kind-is = T .ready .kind-is;
@@ -189,10 +190,10 @@ module _ {w₀ s₀ : List ℕ} {c₀ : Counters} {n number : ℕ} {entries₀ :
             let R = flat-ready in
             let X = leads-done (D .is (R .table) (R .source) (R .view) (R .holds) (R .beside) (R .inside) (R .cache)) q in
             record { lent = record { table = R .table; view = X .arena; holds = X .holds }; inside = omega (arith, X .low, X .holds .nodes) };
-        room = T .room;
+        growing = T .growing;
       }
 
-      module _ {items′ : List ℕ} {b : Brought} (B : Brings w′ s′ r number items held items′ b) where
+      module _ {items′ met′ : List ℕ} {b : Brought} (B : Brings w′ s′ r number items held items′ met′ b) where
         module _ {table : ℕ} {u a : Arena} (H : Holds table w₀ s₀ c₀ a) (E : Ext u a) (l : n < length u) (C : Cache (normalize (length w₀) (length s₀) u) (length u) a entries₀) where
           f : ℕ → Job
           f = normalize (length w₀) (length s₀) u
@@ -232,7 +233,7 @@ module _ {w₀ s₀ : List ℕ} {c₀ : Counters} {n number : ℕ} {entries₀ :
               stop-leads (record { is = o; stands = stands-ext (I H E l C .ext) (S .stands) });
         }
 
-        pub flat-more : {m : ℕ} {d : Counters} → b ≡ brought.Held m d → length w′ ≡ length w → length s′ ≡ length s → FlatTurn w₀ s₀ c₀ n number entries₀ total w′ s′ entries′ items′ m d (i + 1)
+        pub flat-more : {m : ℕ} {d : Counters} → b ≡ brought.Held m d → length w′ ≡ length w → length s′ ≡ length s → FlatTurn w₀ s₀ c₀ n number entries₀ total w′ s′ entries′ items′ m met′ d (i + 1)
         unfolding f I rest
         flat-more {m} {d} q lw ls = record {
           ready = T .ready;
@@ -240,9 +241,9 @@ module _ {w₀ s₀ : List ℕ} {c₀ : Counters} {n number : ℕ} {entries₀ :
           turn = omega (arith, h);
           words-long = lw ∙ T .words-long;
           starts-long = ls ∙ T .starts-long;
-          room =
+          growing =
               let R = T .ready .ready in
-              held-room (T .ready .side) (T .ready .kind-is) (rest (R .holds) (R .beside) (R .inside) (R .cache)) (led (R .holds) (R .beside) (R .inside) (R .cache)) B q;
+              held-growing (T .ready .side) (T .ready .kind-is) (rest (R .holds) (R .beside) (R .inside) (R .cache)) (led (R .holds) (R .beside) (R .inside) (R .cache)) B q;
           there = λ table u a H E l C.
               let X = carried (T .ready .side) (T .ready .kind-is) (rest H E l C) (led H E l C) B q in
               record {
@@ -279,9 +280,9 @@ module _ {w₀ s₀ : List ℕ} {c₀ : Counters} {n number : ℕ} {entries₀ :
         record {
           listing = record {
             gathering = record { lent = record { table = R .table; view = X .arena; holds = X .holds }; side = T .ready .side; kind-is = T .ready .kind-is; low = ap (λ (z : ℕ). below z (take held items)) (X .holds .nodes) ∙ F .low };
-            room = T .room;
+            room = T .growing .room;
           };
-          some = omega (arith, F .some (omega arith), room-length (T .room));
+          some = omega (arith, F .some (omega arith), room-length (T .growing .room));
         }
 
     -- what stands for it grew from the arena that it was made in

@@ -1,12 +1,13 @@
 -- A node in memory: which kind it is, and any node but a list, whose children are normalized before it.
 use Prim.Native.Nat.{ℕ, _+_, _*_, _<_}
-use mathlib.Core.Path.{_≡_, sym, ap, _∙_, subst}
-use mathlib.Core.Bool.{true, false, _||_}
+use mathlib.Core.Path.{_≡_, refl, sym, ap, _∙_, subst}
+use mathlib.Core.Bool.{true, false, not, _||_}
 use mathlib.Core.List.{List}
 use native.Mathlib.Omega.{arith}
 use lib.ListN.{length, getD, take}
 use lib.Seq.{length-take-le}
 use lib.Dec.{eqb}
+use borrow.Author.Tests.{not-true, not-false}
 use Rattle.words.specs.Words.{child}
 use Rattle.types.specs.Kind.{disc}
 use Rattle.types.specs.Node.{Tag, Node, node, tag, kind, children, encode, below}
@@ -17,6 +18,7 @@ use Rattle.types.specs.Reply.{reply-of}
 use Rattle.types.specs.declared.Counters.{Counters}
 use Rattle.types.proofs.Faults.{children-encode}
 use Rattle.types.proofs.Growth.{ext-length, ext-at}
+use Rattle.types.proofs.Memories.{unique}
 use Rattle.types.proofs.Sound.{sound-ext, at-formed, children-below}
 use Rattle.node_store.specs.Inner.Stored.{InRange, NodeAt}
 use Rattle.node_store.specs.Intern.{intern}
@@ -33,9 +35,11 @@ use Rattle.recursion.specs.Inner.Work.{Grown, Ready, Does, EachReady, DoesEach}
 use Rattle.recursion.specs.declared.Run.{Run}
 use Rattle.recursion.specs.declared.Run.the-variants as run
 use Rattle.recursion.proofs.Leading.{each-done}
+use Rattle.recursion.proofs.Turns.{Turn, turn-falls}
 use Rattle.recursion.proofs.Nodes.{Rebuilt, InternsAs, node-refused, node-done}
+use Rattle.simplification.specs.Pass.{list-kind}
 use Rattle.set_op_lists.specs.SetOps.{normalize}
-use Rattle.set_ops_pass.specs.Inner.{ListReady, MemberCount, MemberThere, MemberAt}
+use Rattle.set_ops_pass.specs.Inner.{ListReady, OtherReady, MemberCount, MemberThere, MemberAt}
 use Rattle.set_ops_pass.proofs.Normalizing.{at-other, lawful}
 
 -- ---- the children in the words of a node
@@ -66,6 +70,11 @@ interns-as {w} {s} {c} {n} {items} {count} R = record {
   is = λ table u a H E l. R .is table a H ∙ ap (λ (y : Node). reply-of w s c (intern (length w) (length s) (node (tag y) (take count items)) a)) (ext-at u a E n l);
 }
 
+-- a child's measure is below that of all children
+pub item-falls : {w₀ s₀ : List ℕ} {c₀ : Counters} {n : ℕ} {items₀ : List ℕ} {count : ℕ} {entries₀ w s items entries : List ℕ} {last : Counters} {i : ℕ} → Turn normalize Grown w₀ s₀ c₀ n items₀ count entries₀ w s items entries last i
+    → i < count → {x : ℕ} → x ≡ getD items i 0 → {t : ℕ} → 4 * n ≡ t → 4 * x + 3 < t
+item-falls {n = n} T h {x} e q = let l : 3 * x + 2 < 3 * n = turn-falls T h e refl in omega (arith, l, q)
+
 module _ {w s : List ℕ} {c : Counters} {n : ℕ} {entries : List ℕ} (P : Ready normalize Grown w s c n entries) where
   inside : n < c .nodes
   inside = omega (arith, P .inside, ext-length (P .source) (P .view) (P .beside), P .holds .nodes)
@@ -76,29 +85,32 @@ module _ {w s : List ℕ} {c : Counters} {n : ℕ} {entries : List ℕ} (P : Rea
   pub ready-wide : {x : ℕ} → x ≡ n → InRange w s c x
   ready-wide e = range-wide e ready-range
 
-  pub each-falls : {t : ℕ} → 3 * n + 1 ≡ t → 3 * n < t
+  pub each-falls : {t : ℕ} → 4 * n + 1 ≡ t → 4 * n < t
   each-falls e = omega (arith, e)
 
-  pub same-falls : {t : ℕ} → 3 * n + 2 ≡ t → 3 * n + 1 < t
+  pub list-falls : {t : ℕ} → 4 * n + 2 ≡ t → 4 * n < t
+  list-falls e = omega (arith, e)
+
+  pub other-falls : {t : ℕ} → 4 * n + 2 ≡ t → 4 * n + 1 < t
+  other-falls e = omega (arith, e)
+
+  pub same-falls : {t : ℕ} → 4 * n + 3 ≡ t → 4 * n + 2 < t
   same-falls e = omega (arith, e)
 
   module _ {x k : ℕ} (e : x ≡ n) (K : KindAt w s c x k) where
     kind-of : (table : ℕ) (a : Arena) → Holds table w s c a → k ≡ disc (kind (tag (at a n)))
     kind-of table a H = K .is table a H ∙ ap (λ (y : ℕ). disc (kind (tag (at a y)))) e
 
-    pub list-ready : (eqb k 7 || eqb k 8) ≡ true → ListReady w s c n k entries
+    pub list-ready : not (eqb k 7 || eqb k 8) ≡ false → ListReady w s c n k entries
     list-ready q =
         let p = kind-of (P .table) (P .view) (P .holds) in
-        let t = list-tag (tag (at (P .view) n)) (ap (λ (y : ℕ). eqb y 7 || eqb y 8) (sym p) ∙ q) in
+        let t = list-tag (tag (at (P .view) n)) (ap (λ (y : ℕ). eqb y 7 || eqb y 8) (sym p) ∙ not-false (eqb k 7 || eqb k 8) q) in
         record { ready = P; side = t .0; tag-is = t .1; kind-is = p ∙ ap (λ (y : Tag). disc (kind y)) (t .1) }
 
-    other-rebuilt : (eqb k 7 || eqb k 8) ≡ false → {r : Children} → AllChildren w s c n r → Rebuilt normalize Grown (λ t. t) w s c n (r .items) (r .count)
-    other-rebuilt q L = record {
-      kids = λ table u a H E l. L .is table a H .is ∙ ap children (ext-at u a E n l);
-      step = λ table u a H E l b.
-          at-other (length w) (length s) table u (sound-ext table E (H .good)) n l b
-          (other-tag (tag (at u n)) (ap (λ (y : ℕ). eqb y 7 || eqb y 8) (sym (kind-of table a H ∙ ap (λ (y : Node). disc (kind (tag y))) (ext-at u a E n l))) ∙ q));
-    }
+    pub other-ready : not (eqb k 7 || eqb k 8) ≡ true → OtherReady w s c n entries
+    other-ready q =
+        let p = kind-of (P .table) (P .view) (P .holds) in
+        record { ready = P; other = other-tag (tag (at (P .view) n)) (ap (λ (y : ℕ). eqb y 7 || eqb y 8) (sym p) ∙ not-true (eqb k 7 || eqb k 8) q) }
 
   -- ---- its children
   module _ {r : Children} (L : AllChildren w s c n r) where
@@ -124,11 +136,19 @@ module _ {w s : List ℕ} {c : Counters} {n : ℕ} {entries : List ℕ} (P : Rea
           }
 
 -- ---- the node with what they became
-module _ {w s : List ℕ} {c : Counters} {n : ℕ} {entries : List ℕ} (P : Ready normalize Grown w s c n entries) {x k : ℕ} (e : x ≡ n) (K : KindAt w s c x k) {r : Children} (L : AllChildren w s c n r)
-    {w′ s′ items′ entries′ : List ℕ} {g : Run} (E : DoesEach normalize Grown w s c n (r .items) (r .count) entries w′ s′ items′ entries′ g) where
-  pub other-refused : {v : ℕ} → g ≡ run.Refused v → (eqb k 7 || eqb k 8) ≡ false → Does normalize Grown w s c n entries w′ s′ entries′ (interned.Refused v)
-  other-refused q f = node-refused lawful (other-rebuilt P e K f L) E q
+module _ {w s : List ℕ} {c : Counters} {n : ℕ} {entries : List ℕ} (O : OtherReady w s c n entries) {r : Children} (L : AllChildren w s c n r) where
+  other-rebuilt : Rebuilt normalize Grown (λ t. t) w s c n (r .items) (r .count)
+  other-rebuilt = record {
+    kids = λ table u a H E l. L .is table a H .is ∙ ap children (ext-at u a E n l);
+    step = λ table u a H E l b.
+        at-other (length w) (length s) table u (sound-ext table E (H .good)) n l b
+        (ap (λ (y : Node). list-kind (tag y)) (sym (ext-at u a E n l)) ∙ ap (λ (d : Arena). list-kind (tag (at d n))) (unique H (O .ready .holds)) ∙ O .other);
+  }
 
-  pub other-done : {d : Counters} → g ≡ run.Went d → {w″ s″ : List ℕ} {i : Interned} → Rebuilds w′ s′ d n items′ (r .count) w″ s″ i → (eqb k 7 || eqb k 8) ≡ false → length w′ ≡ length w → length s′ ≡ length s → length w″ ≡ length w′ → length s″ ≡ length s′
-      → Does normalize Grown w s c n entries w″ s″ entries′ i
-  other-done q B f lw ls lw′ ls′ = node-done lawful (other-rebuilt P e K f L) E q (interns-as B) lw ls lw′ ls′
+  module _ {w′ s′ items′ entries′ : List ℕ} {g : Run} (E : DoesEach normalize Grown w s c n (r .items) (r .count) entries w′ s′ items′ entries′ g) where
+    pub other-refused : {v : ℕ} → g ≡ run.Refused v → Does normalize Grown w s c n entries w′ s′ entries′ (interned.Refused v)
+    other-refused q = node-refused lawful other-rebuilt E q
+
+    pub other-done : {d : Counters} → g ≡ run.Went d → {w″ s″ : List ℕ} {i : Interned} → Rebuilds w′ s′ d n items′ (r .count) w″ s″ i → length w′ ≡ length w → length s′ ≡ length s → length w″ ≡ length w′ → length s″ ≡ length s′
+        → Does normalize Grown w s c n entries w″ s″ entries′ i
+    other-done q B lw ls lw′ ls′ = node-done lawful other-rebuilt E q (interns-as B) lw ls lw′ ls′

@@ -2,6 +2,7 @@
 use Prim.Native.Nat.{ℕ, _<_}
 use mathlib.Core.Path.{_≡_}
 use mathlib.Core.List.{List}
+use mathlib.Core.Option.{none}
 use lib.ListN.{length, getD}
 use Rattle.types.specs.Kind.{disc}
 use Rattle.types.specs.Node.{Polarity, members, tag, kind, children}
@@ -10,6 +11,7 @@ use Rattle.types.specs.Memory.{Holds}
 use Rattle.types.specs.declared.Counters.{Counters}
 use Rattle.node_store.specs.Inner.Stored.{InRange}
 use Rattle.recursion.specs.Inner.Work.{Ready, Grown}
+use Rattle.simplification.specs.Pass.{list-kind}
 use Rattle.set_op_lists.specs.SetOps.{normalize}
 
 -- node n is a member list of the kind with this number
@@ -18,6 +20,11 @@ pub record ListReady (w s : List ℕ) (c : Counters) (n number : ℕ) (entries :
   pub side : Polarity
   pub tag-is : tag (at (ready .view) n) ≡ members side
   pub kind-is : number ≡ disc (kind (members side))
+
+-- node n is no member list
+pub record OtherReady (w s : List ℕ) (c : Counters) (n : ℕ) (entries : List ℕ) : Type 0 where
+  pub ready : Ready normalize Grown w s c n entries
+  pub other : list-kind (tag (at (ready .view) n)) ≡ none
 
 -- r is how many children node n has
 pub record MemberCount (w s : List ℕ) (c : Counters) (n r : ℕ) : Type 0 where

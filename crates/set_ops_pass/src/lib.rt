@@ -22,7 +22,7 @@ ghost use Rattle.node_store.specs.Inner.Stored.{InRange};
 ghost use Rattle.node_filter.specs.Inner.Filter.{CoversLent, CoversAfter};
 ghost use Rattle.recursion.specs.Inner.Work.{Grown, Ready, Does, EachReady, DoesEach, CoversRun};
 ghost use Rattle.set_op_lists.specs.SetOps.{normalize};
-ghost use Rattle.set_ops_pass.specs.Inner.{ListReady, MemberCount, MemberThere, MemberAt};
+ghost use Rattle.set_ops_pass.specs.Inner.{ListReady, OtherReady, MemberCount, MemberThere, MemberAt};
 
 // How many members the list n has.
 fn member_count(words: &[u32], starts: &[u32], c: Counters, n: u32) -> usize
@@ -68,7 +68,8 @@ pub fn normalize_set_ops_cached(
     Interned::Node(m, d)
 }
 
-// The same, worked out.
+// The same, worked out. Lists come last, and any other node has a function of its own, so that LLVM makes one small frame of all
+// (docs/DECISIONS.md).
 fn normalize_set_ops_uncached(
     words: &mut [u32],
     starts: &mut [u32],
@@ -84,9 +85,28 @@ fn normalize_set_ops_uncached(
     ensures { λ r. ⌜ CoversAfter (now (words .exit)) (now (starts .exit)) r (now (filter .exit)) ⌝ }
 {
     let kind = kind_at(words, starts, c, wide(n));
-    if (kind == Head::UNION) | (kind == Head::INTERSECTION) {
-        return flatten_set_op_cached(words, starts, c, n, kind, cache, filter);
+    let is_list = (kind == Head::UNION) | (kind == Head::INTERSECTION);
+    if !is_list {
+        return normalize_children(words, starts, c, n, cache, filter);
     }
+    flatten_set_op_cached(words, starts, c, n, kind, cache, filter)
+}
+
+// A node that is no list: its children are normalized, and it is rebuilt from what they become.
+fn normalize_children(
+    words: &mut [u32],
+    starts: &mut [u32],
+    c: Counters,
+    n: u32,
+    cache: &mut [u32; 4096],
+    filter: &mut [u64; 2048],
+) -> Interned
+    requires { ⌜ OtherReady (now words) (now starts) c n (now cache) ⌝ }
+    requires { ⌜ CoversLent (now words) (now starts) c (now filter) ⌝ }
+    ensures { λ r. ⌜ Does normalize Grown (now (words .entry)) (now (starts .entry)) c n (now (cache .entry)) (now (words .exit))
+        (now (starts .exit)) (now (cache .exit)) r ⌝ }
+    ensures { λ r. ⌜ CoversAfter (now (words .exit)) (now (starts .exit)) r (now (filter .exit)) ⌝ }
+{
     let mut list = all_children(words, starts, c, n);
     let count = list.count;
     let r = normalize_each(words, starts, c, n, &mut list.items, count, cache, filter);
@@ -117,13 +137,14 @@ fn flatten_set_op_cached(
         items: [0u32; 64],
         count: 0,
     };
+    let mut met = [0u64; 64];
     let mut last = c;
     let mut i = 0;
     while i < total {
         let member = member_at(words, starts, last, n, i);
         let r = normalize_set_ops_cached(words, starts, last, member, cache, filter);
         let held = list.count;
-        let b = bring(words, starts, r, kind, &mut list.items, held);
+        let b = bring(words, starts, r, kind, &mut list.items, &mut met, held);
         let Brought::Held(next, d) = b else {
             return Interned::Refused(b.refusal());
         };

@@ -1,7 +1,7 @@
 -- What computed tests say.
 use mathlib.Core.Path.{_≡_, refl, sym, ap, ap₂, _∙_}
-use mathlib.Core.Bool.{Bool, true, false, _||_}
-use mathlib.Core.List.{List, [], _∷_, List·Memᴰ as Mem, List·Memᴰ·head as head, List·Memᴰ·tail as tail}
+use mathlib.Core.Bool.{Bool, true, false, _||_, or-assoc}
+use mathlib.Core.List.{List, [], _∷_, _++_, List·Memᴰ as Mem, List·Memᴰ·head as head, List·Memᴰ·tail as tail}
 use mathlib.Core.Logic.{_⊎_, inl, inr}
 use native.Mathlib.Decide.{ℕ-discrete}
 use Rattle.types.specs.Node.{Polarity-dec, Tag, Tag-dec, form-dec}
@@ -51,6 +51,11 @@ module _ {A : Type 0} (p : A → Bool) where
   unfolding one-of
   one-if (y ∷ ys) x (head e) q = or-left (p y) (one-of p ys) (ap p (sym e) ∙ q)
   one-if (y ∷ ys) x (tail h) q = or-right (p y) (one-of p ys) (one-if ys x h q)
+
+  pub one-append : (xs ys : List A) → one-of p (xs ++ ys) ≡ (one-of p xs || one-of p ys)
+  unfolding one-of
+  one-append [] ys = refl
+  one-append (x ∷ xs) ys = ap (λ (b : Bool). p x || b) (one-append xs ys) ∙ sym (or-assoc (p x) (one-of p xs) (one-of p ys))
 
   pub one-same : (q : A → Bool) (xs : List A) → ((x : A) → Mem x xs → p x ≡ q x) → one-of p xs ≡ one-of q xs
   unfolding one-of

@@ -26,8 +26,9 @@ const FIRST: u32 = 69;
 const TO_64: u32 = 70;
 const TO_65: u32 = 71;
 
-const ROOTS: [(&str, &[u32]); 6] = [
+const ROOTS: [(&str, &[u32]); 7] = [
     ("64", &[FIRST, TO_64]),
+    ("64 and repeats", &[FIRST, TO_64, FIRST]),
     ("65", &[FIRST, TO_65]),
     ("65 and the bound", &[FIRST, TO_65, BOUND]),
     ("a new one and 65", &[NEW, FIRST, TO_65]),

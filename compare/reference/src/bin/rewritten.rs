@@ -13,8 +13,8 @@ use reference::memory::Memory;
 use reference::node::Node;
 use reference::{NODES, WORDS};
 
-/// Types that stand for nothing new here: a chain of intersections is one of unions, and the sets of two lambdas are small.
-const LEFT_OUT: [&str; 3] = ["intersections", "one lambda twice", "two lambdas"];
+/// Types that stand for nothing new here: the sets of two lambdas are small.
+const LEFT_OUT: [&str; 2] = ["one lambda twice", "two lambdas"];
 
 const CHANGES: [(&str, u8); 3] = [
     ("normalize_vars", 10),

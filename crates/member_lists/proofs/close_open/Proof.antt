@@ -6,7 +6,7 @@ use Rattle.member_lists.proofs.close_open.Statement.{statement}
 use Rattle.member_lists.proofs.close_open.Tie as tie
 
 flatten-requires : tie.Need-flatten-requires
-flatten-requires c κs = search needs
+flatten-requires c κs = search open-flattens
 
 enum-known-grown : tie.Need-enum-known-grown
 enum-known-grown c = search needs
@@ -24,7 +24,7 @@ returns : tie.Need-returns
 returns c = (search open-full, covers-full)
 
 finish-requires : tie.Need-finish-requires
-finish-requires c κs = (search (open-listing (c .before .before .before .before .before .before .flatten .ensures)), (search needs, search needs))
+finish-requires c κs = (open-listing (c .before .before .before .before .before .before .flatten .ensures) (c .before .before .before .before .grown .given .1) (c .before .before .before .before .before .before .before .before .before .before .before .before .before .before .pre .0), (search needs, search needs))
 
 same-length-3 : tie.Need-same-length-3
 same-length-3 c = search needs

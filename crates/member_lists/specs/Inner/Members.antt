@@ -2,9 +2,10 @@
 -- answer. `number` is that of the kind of list.
 use Prim.Native.Nat.{ℕ, _+_, _≤_, _<_}
 use mathlib.Core.Path.{_≡_}
-use mathlib.Core.Bool.{true, false}
+use mathlib.Core.Bool.{true, false, _||_}
 use mathlib.Core.List.{List, _∷_, flatMap, List·Memᴰ as Mem}
 use lib.ListN.{length, take}
+use lib.Dec.{eqb}
 use Rattle.types.specs.Out.{Out, ok, refuse, _>>=_}
 use Rattle.types.specs.Kind.{disc}
 use Rattle.types.specs.Node.{Polarity, members, bound, node, tag, kind, below}
@@ -16,8 +17,9 @@ use Rattle.types.specs.declared.Counters.{Counters}
 use Rattle.node_store.specs.Inner.Stored.{Lent, InRange}
 use Rattle.node_store.specs.Intern.{intern, left}
 use Rattle.node_store.specs.declared.added.Interned.{Interned}
+use Rattle.bits.specs.Bits.{has, count-below}
 use Rattle.recursion.specs.Jobs.{Job}
-use Rattle.simplification.specs.Pass.{is-decided, splice, first-copies, member-list, close}
+use Rattle.simplification.specs.Pass.{one-of, is-decided, splice, first-copies, member-list, close}
 use Rattle.member_lists.specs.Inner.Closed.{ClosesTo}
 use Rattle.member_lists.specs.declared.Closed.{Closed}
 use Rattle.member_lists.specs.declared.Decision.{Decision}
@@ -40,20 +42,39 @@ pub record Room (items : List ℕ) (count : ℕ) : Type 0 where
   pub long : length items ≡ 64
   pub few : count ≤ 64
 
+-- the bits set are exactly those of the members of the list, and as many as the list is long, of any number of nodes that they are below
+-- (02, A6)
+pub record BitsOf (list met : List ℕ) : Type 0 where
+  pub long : length met ≡ 64
+  pub exactly : (m : ℕ) → has met m ≡ one-of (eqb m) list
+  pub many : (nodes : ℕ) → below nodes list ≡ true → count-below (has met) nodes ≡ length list
+
+-- a list of the first `count` items, and the bits of its members
+pub record Growing (items : List ℕ) (count : ℕ) (met : List ℕ) : Type 0 where
+  pub room : Room items count
+  pub bits : BitsOf (take count items) met
+
+-- and a number that has a bit
+pub record Adding (items : List ℕ) (count : ℕ) (met : List ℕ) (n : ℕ) : Type 0 where
+  pub growing : Growing items count met
+  pub inside : n < 4096
+
 -- the enum's cases: the list is as long as it says; a 65th member is refused by 8
 abbrev pub grown-out : List ℕ → Grown → Out (List ℕ)
 grown-out items (grown.Count n) = ok (take n items)
 grown-out items grown.Full = refuse 8
 
--- the list after what is new was appended to it, each number unless it was there
-pub record Grows (items : List ℕ) (count : ℕ) (new items′ : List ℕ) (r : Grown) : Type 0 where
-  pub room : (n : ℕ) → r ≡ grown.Count n → Room items′ n
+-- the list after what is new was appended to it, each number unless it was there; the bits set are then those that were and those of all
+-- that is new, whether it was appended or was there
+pub record Grows (items : List ℕ) (count : ℕ) (met new items′ met′ : List ℕ) (r : Grown) : Type 0 where
+  pub growing : (n : ℕ) → r ≡ grown.Count n → Growing items′ n met′
+  pub bits : (n : ℕ) → r ≡ grown.Count n → (m : ℕ) → has met′ m ≡ (has met m || one-of (eqb m) new)
   pub is : grown-out items′ r ≡ first-copies (take count items) new
 
 -- memory holds an arena with a node n, which is to go to the list
-pub record Splicing (w s : List ℕ) (c : Counters) (n : ℕ) (items : List ℕ) (count : ℕ) : Type 0 where
+pub record Splicing (w s : List ℕ) (c : Counters) (n : ℕ) (items : List ℕ) (count : ℕ) (met : List ℕ) : Type 0 where
   pub range : InRange w s c n
-  pub room : Room items count
+  pub growing : Growing items count met
 
 -- memory holds an arena, whose nodes the members are; the kind is that of a member list
 pub record Gathering (w s : List ℕ) (c : Counters) (number : ℕ) (ms : List ℕ) : Type 0 where
@@ -62,15 +83,16 @@ pub record Gathering (w s : List ℕ) (c : Counters) (number : ℕ) (ms : List �
   pub kind-is : number ≡ disc (kind (members side))
   pub low : below (c .nodes) ms ≡ true
 
--- and there are 64 items for the list
-pub record Flattening (w s : List ℕ) (c : Counters) (number : ℕ) (ms items : List ℕ) : Type 0 where
+-- and there are 64 items for the list, and no bit is set yet
+pub record Flattening (w s : List ℕ) (c : Counters) (number : ℕ) (ms items met : List ℕ) : Type 0 where
   pub gathering : Gathering w s c number ms
-  pub long : length items ≡ 64
+  pub growing : Growing items 0 met
 
 -- what the members bring was appended
-pub record Flattens (w s : List ℕ) (c : Counters) (number : ℕ) (ms items : List ℕ) (count : ℕ) (items′ : List ℕ) (r : Grown) : Type 0 where
+pub record Flattens (w s : List ℕ) (c : Counters) (number : ℕ) (ms items : List ℕ) (count : ℕ) (met items′ met′ : List ℕ)
+    (r : Grown) : Type 0 where
   pub is : (table : ℕ) (a : Arena) (k : Polarity) → Holds table w s c a → number ≡ disc (kind (members k))
-      → Grows items count (flatMap (λ (m : ℕ). splice k m (at a m)) ms) items′ r
+      → Grows items count met (flatMap (λ (m : ℕ). splice k m (at a m)) ms) items′ met′ r
 
 -- ---- a list that is closed
 -- r is a member that decides the list, or says that there is none

@@ -1,5 +1,6 @@
 -- A list of the same kind, or any other node.
 use Rattle.set_op_lists.proofs.Bringing.{appends-members, appends-itself}
+use Rattle.member_lists.proofs.Splices.{splicing-adds}
 use borrow.Author.Needs.{needs}
 use Rattle.set_op_lists.proofs.append_brought.Statement.{statement}
 use Rattle.set_op_lists.proofs.append_brought.Tie as tie
@@ -20,7 +21,7 @@ returns : tie.Need-returns
 returns c = search appends-members
 
 append-requires : tie.Need-append-requires
-append-requires c κs = search needs
+append-requires c κs = search splicing-adds
 
 returns-2 : tie.Need-returns-2
 returns-2 c = search appends-itself

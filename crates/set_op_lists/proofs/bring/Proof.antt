@@ -30,10 +30,10 @@ enum-told-2 : tie.Need-enum-told-2
 enum-told-2 c = search needs
 
 returns-2 : tie.Need-returns-2
-returns-2 c = brings-full (c .before .before .before .before .before .before .before .before .before .pre) (c .before .before .before .before .before .outcome .given .1) (c .before .before .append-brought .ensures) (c .enum-told2 .given .1)
+returns-2 c = brings-full (c .before .before .before .before .before .before .before .before .before .before .pre) (c .before .before .before .before .before .before .outcome .given .1) (c .before .before .append-brought .ensures) (c .enum-told2 .given .1)
 
 returns-3 : tie.Need-returns-3
-returns-3 c = brings-more (c .before .before .before .before .before .before .before .before .before .before .pre) (c .before .before .before .before .before .before .outcome .given .1) (c .before .before .before .append-brought .ensures) (c .before .grown .given .1)
+returns-3 c = brings-more (c .before .before .before .before .before .before .before .before .before .before .before .pre) (c .before .before .before .before .before .before .before .outcome .given .1) (c .before .before .before .append-brought .ensures) (c .before .grown .given .1)
 
 pub bring-spec : {M : Type 1} → statement M
 bring-spec =

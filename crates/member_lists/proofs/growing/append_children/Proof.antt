@@ -1,16 +1,16 @@
 -- The invariant: i children are appended.
 use Prim.Native.Nat.{_-_}
 use lib.ListN.{length}
-use Rattle.member_lists.proofs.Copying.{Appended, appended-start, appended-room, appended-full, appended-more, appended-done}
+use Rattle.member_lists.proofs.Copying.{Appended, appended-start, appended-next, appended-full, appended-more, appended-done}
 use borrow.Author.Needs.{needs}
 use Rattle.member_lists.proofs.growing.append_children.Statement.{statement}
 use Rattle.member_lists.proofs.growing.append_children.Tie as tie
 
 abbrev Inv-loop : tie.InvT-loop
-Inv-loop node items₀ count body held₀ i₀ items held i = Appended node body items₀ count items held i
+Inv-loop node items₀ met₀ count body held₀ i₀ items met held i = Appended node body items₀ count met₀ items held met i
 
 abbrev μ-loop : tie.MeasureT-loop
-μ-loop node items₀ count body held₀ i₀ items held i = length body - i
+μ-loop node items₀ met₀ count body held₀ i₀ items met held i = length body - i
 
 child-words-requires : tie.Need-child-words-requires Inv-loop μ-loop
 child-words-requires c κs = search needs
@@ -28,7 +28,7 @@ child-requires : tie.Need-child-requires Inv-loop μ-loop
 child-requires c κs = search needs
 
 append-requires : tie.Need-append-requires Inv-loop μ-loop
-append-requires c κs = search appended-room
+append-requires c κs = search appended-next
 
 enum-known-grown : tie.Need-enum-known-grown Inv-loop μ-loop
 enum-known-grown c = search needs

@@ -7,10 +7,10 @@ use Rattle.member_lists.proofs.growing.flatten.Statement.{statement}
 use Rattle.member_lists.proofs.growing.flatten.Tie as tie
 
 abbrev Inv-loop : tie.InvT-loop
-Inv-loop words starts c kind members items₀ held₀ i₀ items held i = Passed words starts c kind members items₀ items held i
+Inv-loop words starts c kind members items₀ met₀ held₀ i₀ items met held i = Passed words starts c kind members items₀ met₀ items held met i
 
 abbrev μ-loop : tie.MeasureT-loop
-μ-loop words starts c kind members items₀ held₀ i₀ items held i = length members - i
+μ-loop words starts c kind members items₀ met₀ held₀ i₀ items met held i = length members - i
 
 loop-holds : tie.Need-loop-holds Inv-loop μ-loop
 loop-holds c = search passed-start

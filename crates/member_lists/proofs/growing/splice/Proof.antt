@@ -1,5 +1,5 @@
 -- By the kind of the member.
-use Rattle.member_lists.proofs.Splices.{brings-members, brings-nothing, brings-itself}
+use Rattle.member_lists.proofs.Splices.{splicing-adds, brings-members, brings-nothing, brings-itself}
 use Rattle.member_lists.proofs.BoundKinds.{range-wide}
 use borrow.Author.Needs.{needs}
 use Rattle.member_lists.proofs.growing.splice.Statement.{statement}
@@ -27,7 +27,7 @@ returns-2 : tie.Need-returns-2
 returns-2 c = search brings-nothing
 
 append-requires : tie.Need-append-requires
-append-requires c κs = search needs
+append-requires c κs = search splicing-adds
 
 returns-3 : tie.Need-returns-3
 returns-3 c = search brings-itself

@@ -1,4 +1,4 @@
--- The cycle: the measure is three times the node's number, and then which half.
+-- The cycle: the measure is four times the node's number, and then which of the five.
 use Prim.Native.Nat.{ℕ, _+_, _-_, _*_, _<_}
 use mathlib.Core.Path.{refl}
 use mathlib.Core.List.{[]}
@@ -15,25 +15,28 @@ use Rattle.set_op_lists.specs.declared.Brought.the-variants as brought
 use Rattle.recursion.specs.Inner.Work.{Grown}
 use Rattle.recursion.proofs.Covering.{covers-stopped, covers-went}
 use Rattle.recursion.proofs.Remembering.{ready-small, cached-done, remember-room, remembered}
-use Rattle.recursion.proofs.Turns.{Turn, turn-start, turn-item, turn-falls, turn-ready, turn-refused, turn-more, turn-done}
+use Rattle.recursion.proofs.Turns.{Turn, turn-start, turn-item, turn-ready, turn-refused, turn-more, turn-done}
 use Rattle.set_op_lists.specs.SetOps.{normalize}
 use Rattle.set_ops_pass.proofs.Normalizing.{lawful}
-use Rattle.set_ops_pass.proofs.Working.{ready-range, ready-wide, each-falls, same-falls, list-ready, children-ready, rebuilding, other-refused, other-done}
+use Rattle.set_ops_pass.proofs.Working.{item-falls, ready-range, ready-wide, each-falls, list-falls, other-falls, same-falls, list-ready, other-ready, children-ready, rebuilding, other-refused, other-done}
 use Rattle.set_ops_pass.proofs.Flattening.{FlatTurn, brought-covers, list-range, flat-start, flat-near, flat-member, flat-falls, flat-ready, flat-brings, flat-refused, flat-more, flat-filled, flat-done}
 use borrow.Fn.Kinds.{In}
 use borrow.Fn.PlainCycle.{Measures, is, falls, and}
 use Rattle.set_ops_pass.proofs.flatten_set_op_cached.Reads as flatten-set-op-cached
 use Rattle.set_ops_pass.proofs.flatten_set_op_cached.Kinds as flatten-set-op-cached-kinds
-use Rattle.set_ops_pass.proofs.+flatten_set_op_cached+normalize_each+normalize_set_ops_cached+normalize_set_ops_uncached.Lts-flatten_set_op_cached as flatten-set-op-cached-lts
+use Rattle.set_ops_pass.proofs.+flatten_set_op_cached+normalize_children+normalize_each+normalize_set_ops_cached+normalize_set_ops_uncached.Lts-flatten_set_op_cached as flatten-set-op-cached-lts
+use Rattle.set_ops_pass.proofs.normalize_children.Reads as normalize-children
+use Rattle.set_ops_pass.proofs.normalize_children.Kinds as normalize-children-kinds
+use Rattle.set_ops_pass.proofs.+flatten_set_op_cached+normalize_children+normalize_each+normalize_set_ops_cached+normalize_set_ops_uncached.Lts-normalize_children as normalize-children-lts
 use Rattle.set_ops_pass.proofs.normalize_each.Reads as normalize-each
 use Rattle.set_ops_pass.proofs.normalize_each.Kinds as normalize-each-kinds
-use Rattle.set_ops_pass.proofs.+flatten_set_op_cached+normalize_each+normalize_set_ops_cached+normalize_set_ops_uncached.Lts-normalize_each as normalize-each-lts
+use Rattle.set_ops_pass.proofs.+flatten_set_op_cached+normalize_children+normalize_each+normalize_set_ops_cached+normalize_set_ops_uncached.Lts-normalize_each as normalize-each-lts
 use Rattle.set_ops_pass.proofs.normalize_set_ops_cached.Reads as normalize-set-ops-cached
 use Rattle.set_ops_pass.proofs.normalize_set_ops_cached.Kinds as normalize-set-ops-cached-kinds
-use Rattle.set_ops_pass.proofs.+flatten_set_op_cached+normalize_each+normalize_set_ops_cached+normalize_set_ops_uncached.Lts-normalize_set_ops_cached as normalize-set-ops-cached-lts
+use Rattle.set_ops_pass.proofs.+flatten_set_op_cached+normalize_children+normalize_each+normalize_set_ops_cached+normalize_set_ops_uncached.Lts-normalize_set_ops_cached as normalize-set-ops-cached-lts
 use Rattle.set_ops_pass.proofs.normalize_set_ops_uncached.Reads as normalize-set-ops-uncached
 use Rattle.set_ops_pass.proofs.normalize_set_ops_uncached.Kinds as normalize-set-ops-uncached-kinds
-use Rattle.set_ops_pass.proofs.+flatten_set_op_cached+normalize_each+normalize_set_ops_cached+normalize_set_ops_uncached.Lts-normalize_set_ops_uncached as normalize-set-ops-uncached-lts
+use Rattle.set_ops_pass.proofs.+flatten_set_op_cached+normalize_children+normalize_each+normalize_set_ops_cached+normalize_set_ops_uncached.Lts-normalize_set_ops_uncached as normalize-set-ops-uncached-lts
 use Rattle.rebuilding.proofs.children.all_children.Reads as all-children-reads
 use Rattle.rebuilding.proofs.node.rebuild.Reads as rebuild-reads
 use Rattle.recursion.proofs.cached.Reads as cached-reads
@@ -45,10 +48,10 @@ use Rattle.set_ops_pass.proofs.member_at.Reads as member-at-reads
 use Rattle.set_ops_pass.proofs.member_count.Reads as member-count-reads
 use Rattle.node_reading.proofs.nodes.kind_at.Reads as kind-at-reads
 use Rattle.words.proofs.arc_ty.wide.Reads as wide-reads
-use Rattle.set_ops_pass.proofs.+flatten_set_op_cached+normalize_each+normalize_set_ops_cached+normalize_set_ops_uncached.{
+use Rattle.set_ops_pass.proofs.+flatten_set_op_cached+normalize_children+normalize_each+normalize_set_ops_cached+normalize_set_ops_uncached.{
   statement,
 }
-use Rattle.set_ops_pass.proofs.+flatten_set_op_cached+normalize_each+normalize_set_ops_cached+normalize_set_ops_uncached.Tie.{
+use Rattle.set_ops_pass.proofs.+flatten_set_op_cached+normalize_children+normalize_each+normalize_set_ops_cached+normalize_set_ops_uncached.Tie.{
   close,
 }
 use Rattle.node_store.proofs.added.Interned.refusal.Reads as added-Interned-refusal-reads
@@ -56,16 +59,19 @@ use Rattle.recursion.proofs.Run.refusal.Reads as Run-refusal-reads
 use Rattle.set_op_lists.proofs.Brought.refusal.Reads as Brought-refusal-reads
 
 abbrev μ-flatten-set-op-cached : Measures 4 flatten-set-op-cached-kinds.ps ℕ
-μ-flatten-set-op-cached κs a = 3 * (a .1 .1 .1 .0)
+μ-flatten-set-op-cached κs a = 4 * (a .1 .1 .1 .0)
+
+abbrev μ-normalize-children : Measures 4 normalize-children-kinds.ps ℕ
+μ-normalize-children κs a = 4 * (a .1 .1 .1 .0) + 1
 
 abbrev μ-normalize-each : Measures 5 normalize-each-kinds.ps ℕ
-μ-normalize-each κs a = 3 * (a .1 .1 .1 .0)
+μ-normalize-each κs a = 4 * (a .1 .1 .1 .0)
 
 abbrev μ-normalize-set-ops-cached : Measures 4 normalize-set-ops-cached-kinds.ps ℕ
-μ-normalize-set-ops-cached κs a = 3 * (a .1 .1 .1 .0) + 2
+μ-normalize-set-ops-cached κs a = 4 * (a .1 .1 .1 .0) + 3
 
 abbrev μ-normalize-set-ops-uncached : Measures 4 normalize-set-ops-uncached-kinds.ps ℕ
-μ-normalize-set-ops-uncached κs a = 3 * (a .1 .1 .1 .0) + 1
+μ-normalize-set-ops-uncached κs a = 4 * (a .1 .1 .1 .0) + 2
 
 abbrev flatten-set-op-cached-at : ℕ → In 4 flatten-set-op-cached-kinds.ps
 flatten-set-op-cached-at t =
@@ -82,6 +88,22 @@ flatten-set-op-cached-below t =
     flatten-set-op-cached-kinds.ps
     (falls 4 flatten-set-op-cached-kinds.ps _<_ μ-flatten-set-op-cached t)
     flatten-set-op-cached.Pre
+
+abbrev normalize-children-at : ℕ → In 4 normalize-children-kinds.ps
+normalize-children-at t =
+    and
+    4
+    normalize-children-kinds.ps
+    (is 4 normalize-children-kinds.ps μ-normalize-children t)
+    normalize-children.Pre
+
+abbrev normalize-children-below : ℕ → In 4 normalize-children-kinds.ps
+normalize-children-below t =
+    and
+    4
+    normalize-children-kinds.ps
+    (falls 4 normalize-children-kinds.ps _<_ μ-normalize-children t)
+    normalize-children.Pre
 
 abbrev normalize-each-at : ℕ → In 5 normalize-each-kinds.ps
 normalize-each-at t =
@@ -134,6 +156,9 @@ normalize-set-ops-uncached-below t =
 abbrev flatten-set-op-cached-claims : ℕ → flatten-set-op-cached-lts.Claims
 flatten-set-op-cached-claims t = (member-count-reads.Asked, member-count-reads.Learnt, member-at-reads.Asked, member-at-reads.Learnt, normalize-set-ops-cached-below t, normalize-set-ops-cached.Post, bring-reads.Asked, bring-reads.Learnt, Brought-refusal-reads.Asked, Brought-refusal-reads.Learnt, close-list-reads.Asked, close-list-reads.Learnt)
 
+abbrev normalize-children-claims : ℕ → normalize-children-lts.Claims
+normalize-children-claims t = (all-children-reads.Asked, all-children-reads.Learnt, normalize-each-below t, normalize-each.Post, Run-refusal-reads.Asked, Run-refusal-reads.Learnt, rebuild-reads.Asked, rebuild-reads.Learnt)
+
 abbrev normalize-each-claims : ℕ → normalize-each-lts.Claims
 normalize-each-claims t = (item-at-reads.Asked, item-at-reads.Learnt, normalize-set-ops-cached-below t, normalize-set-ops-cached.Post, added-Interned-refusal-reads.Asked, added-Interned-refusal-reads.Learnt)
 
@@ -141,14 +166,14 @@ abbrev normalize-set-ops-cached-claims : ℕ → normalize-set-ops-cached-lts.Cl
 normalize-set-ops-cached-claims t = (cached-reads.Asked, cached-reads.Learnt, normalize-set-ops-uncached-below t, normalize-set-ops-uncached.Post, remember-reads.Asked, remember-reads.Learnt)
 
 abbrev normalize-set-ops-uncached-claims : ℕ → normalize-set-ops-uncached-lts.Claims
-normalize-set-ops-uncached-claims t = (wide-reads.Asked, wide-reads.Learnt, kind-at-reads.Asked, kind-at-reads.Learnt, flatten-set-op-cached-below t, flatten-set-op-cached.Post, all-children-reads.Asked, all-children-reads.Learnt, normalize-each-below t, normalize-each.Post, Run-refusal-reads.Asked, Run-refusal-reads.Learnt, rebuild-reads.Asked, rebuild-reads.Learnt)
+normalize-set-ops-uncached-claims t = (wide-reads.Asked, wide-reads.Learnt, kind-at-reads.Asked, kind-at-reads.Learnt, normalize-children-below t, normalize-children.Post, flatten-set-op-cached-below t, flatten-set-op-cached.Post)
 
 abbrev flatten-set-op-cached-Inv-loop : flatten-set-op-cached-lts.InvT-loop
-flatten-set-op-cached-Inv-loop words₀ starts₀ n kind cache₀ filter₀ total list₀ last₀ i₀ words starts cache filter list last i =
-    FlatTurn words₀ starts₀ last₀ n kind cache₀ total words starts cache (list .items) (list .count) last i × CoversLent words starts last filter
+flatten-set-op-cached-Inv-loop words₀ starts₀ n kind cache₀ filter₀ total list₀ met₀ last₀ i₀ words starts cache filter list met last i =
+    FlatTurn words₀ starts₀ last₀ n kind cache₀ total words starts cache (list .items) (list .count) met last i × CoversLent words starts last filter
 
 abbrev flatten-set-op-cached-μ-loop : flatten-set-op-cached-lts.MeasureT-loop
-flatten-set-op-cached-μ-loop words₀ starts₀ n kind cache₀ filter₀ total list₀ last₀ i₀ words starts cache filter list last i = total - i
+flatten-set-op-cached-μ-loop words₀ starts₀ n kind cache₀ filter₀ total list₀ met₀ last₀ i₀ words starts cache filter list met last i = total - i
 
 flatten-set-op-cached-member-count-requires :
     (t : ℕ) → flatten-set-op-cached-lts.Need-member-count-requires (flatten-set-op-cached-claims t) (flatten-set-op-cached-at t) flatten-set-op-cached.Post flatten-set-op-cached-Inv-loop flatten-set-op-cached-μ-loop
@@ -166,7 +191,7 @@ flatten-set-op-cached-normalize-set-ops-cached-requires :
 flatten-set-op-cached-normalize-set-ops-cached-requires t c κs = (search flat-falls, (search flat-ready, search needs))
 
 flatten-set-op-cached-bring-requires : (t : ℕ) → flatten-set-op-cached-lts.Need-bring-requires (flatten-set-op-cached-claims t) (flatten-set-op-cached-at t) flatten-set-op-cached.Post flatten-set-op-cached-Inv-loop flatten-set-op-cached-μ-loop
-flatten-set-op-cached-bring-requires t c κs = flat-brings (c .before .before .before .before .before .before .before .before .before .before .before .before .before .before .before .before .loop .inv .0) (c .before .before .before .before .before .before .before .before .before .before .before .before .before .before .before .loop-test .taken) (c .before .before .before .before .before .before .before .before .before .before .before .before .member-at .ensures) (c .before .before .before .before .before .before .before .normalize-set-ops-cached .ensures .0)
+flatten-set-op-cached-bring-requires t c κs = flat-brings (c .before .before .before .before .before .before .before .before .before .before .before .before .before .before .before .before .before .loop .inv .0) (c .before .before .before .before .before .before .before .before .before .before .before .before .before .before .before .before .loop-test .taken) (c .before .before .before .before .before .before .before .before .before .before .before .before .before .member-at .ensures) (c .before .before .before .before .before .before .before .before .normalize-set-ops-cached .ensures .0)
 
 flatten-set-op-cached-enum-known-b : (t : ℕ) → flatten-set-op-cached-lts.Need-enum-known-b (flatten-set-op-cached-claims t) (flatten-set-op-cached-at t) flatten-set-op-cached.Post flatten-set-op-cached-Inv-loop flatten-set-op-cached-μ-loop
 flatten-set-op-cached-enum-known-b t c = search needs
@@ -184,7 +209,7 @@ flatten-set-op-cached-same-length-2 : (t : ℕ) → flatten-set-op-cached-lts.Ne
 flatten-set-op-cached-same-length-2 t c = search needs
 
 flatten-set-op-cached-returns : (t : ℕ) → flatten-set-op-cached-lts.Need-returns (flatten-set-op-cached-claims t) (flatten-set-op-cached-at t) flatten-set-op-cached.Post flatten-set-op-cached-Inv-loop flatten-set-op-cached-μ-loop
-flatten-set-op-cached-returns t c = (flat-refused (c .before .before .before .before .before .before .before .before .before .before .before .before .before .before .before .before .before .before .before .before .loop .inv .0) (c .before .before .before .before .before .before .before .before .before .before .before .before .before .before .before .before .before .before .before .loop-test .taken) (c .before .before .before .before .before .before .before .before .before .before .before .before .before .before .before .before .member-at .ensures) (c .before .before .before .before .before .before .before .before .before .before .before .normalize-set-ops-cached .ensures .0) (c .before .before .before .bring .ensures) (told-on brought.Refused (brought-out []) (λ e. refl) (c .before .enum-told .given .1) (c .refusal .ensures)), covers-refused)
+flatten-set-op-cached-returns t c = (flat-refused (c .before .before .before .before .before .before .before .before .before .before .before .before .before .before .before .before .before .before .before .before .before .loop .inv .0) (c .before .before .before .before .before .before .before .before .before .before .before .before .before .before .before .before .before .before .before .before .loop-test .taken) (c .before .before .before .before .before .before .before .before .before .before .before .before .before .before .before .before .before .member-at .ensures) (c .before .before .before .before .before .before .before .before .before .before .before .before .normalize-set-ops-cached .ensures .0) (c .before .before .before .bring .ensures) (told-on brought.Refused (brought-out []) (λ e. refl) (c .before .enum-told .given .1) (c .refusal .ensures)), covers-refused)
 
 flatten-set-op-cached-add-i : (t : ℕ) → flatten-set-op-cached-lts.Need-add-i (flatten-set-op-cached-claims t) (flatten-set-op-cached-at t) flatten-set-op-cached.Post flatten-set-op-cached-Inv-loop flatten-set-op-cached-μ-loop
 flatten-set-op-cached-add-i t c = search needs
@@ -193,7 +218,7 @@ flatten-set-op-cached-loop-less : (t : ℕ) → flatten-set-op-cached-lts.Need-l
 flatten-set-op-cached-loop-less t c = search needs
 
 flatten-set-op-cached-loop-again : (t : ℕ) → flatten-set-op-cached-lts.Need-loop-again (flatten-set-op-cached-claims t) (flatten-set-op-cached-at t) flatten-set-op-cached.Post flatten-set-op-cached-Inv-loop flatten-set-op-cached-μ-loop
-flatten-set-op-cached-loop-again t c = (flat-more (c .before .before .before .before .before .before .before .before .before .before .before .before .before .before .before .before .before .before .before .before .loop .inv .0) (c .before .before .before .before .before .before .before .before .before .before .before .before .before .before .before .before .before .before .before .loop-test .taken) (c .before .before .before .before .before .before .before .before .before .before .before .before .before .before .before .before .member-at .ensures) (c .before .before .before .before .before .before .before .before .before .before .before .normalize-set-ops-cached .ensures .0) (c .before .before .before .bring .ensures) (c .before .b .given .1) (search needs) (search needs), brought-covers (c .before .before .before .before .before .before .before .before .before .before .before .normalize-set-ops-cached .ensures .1) (c .before .before .before .bring .ensures) (c .before .b .given .1))
+flatten-set-op-cached-loop-again t c = (flat-more (c .before .before .before .before .before .before .before .before .before .before .before .before .before .before .before .before .before .before .before .before .before .loop .inv .0) (c .before .before .before .before .before .before .before .before .before .before .before .before .before .before .before .before .before .before .before .before .loop-test .taken) (c .before .before .before .before .before .before .before .before .before .before .before .before .before .before .before .before .before .member-at .ensures) (c .before .before .before .before .before .before .before .before .before .before .before .before .normalize-set-ops-cached .ensures .0) (c .before .before .before .bring .ensures) (c .before .b .given .1) (search needs) (search needs), brought-covers (c .before .before .before .before .before .before .before .before .before .before .before .before .normalize-set-ops-cached .ensures .1) (c .before .before .before .bring .ensures) (c .before .b .given .1))
 
 flatten-set-op-cached-close-list-requires :
     (t : ℕ) → flatten-set-op-cached-lts.Need-close-list-requires (flatten-set-op-cached-claims t) (flatten-set-op-cached-at t) flatten-set-op-cached.Post flatten-set-op-cached-Inv-loop flatten-set-op-cached-μ-loop
@@ -207,6 +232,42 @@ flatten-set-op-cached-same-length-4 t c = search needs
 
 flatten-set-op-cached-returns-2 : (t : ℕ) → flatten-set-op-cached-lts.Need-returns-2 (flatten-set-op-cached-claims t) (flatten-set-op-cached-at t) flatten-set-op-cached.Post flatten-set-op-cached-Inv-loop flatten-set-op-cached-μ-loop
 flatten-set-op-cached-returns-2 t c = (search flat-done, search needs)
+
+normalize-children-all-children-requires : (t : ℕ) → normalize-children-lts.Need-all-children-requires (normalize-children-claims t) (normalize-children-at t) normalize-children.Post
+normalize-children-all-children-requires t c κs = search ready-range
+
+normalize-children-normalize-each-requires : (t : ℕ) → normalize-children-lts.Need-normalize-each-requires (normalize-children-claims t) (normalize-children-at t) normalize-children.Post
+normalize-children-normalize-each-requires t c κs = (search each-falls, (search children-ready, search needs))
+
+normalize-children-enum-known-r : (t : ℕ) → normalize-children-lts.Need-enum-known-r (normalize-children-claims t) (normalize-children-at t) normalize-children.Post
+normalize-children-enum-known-r t c = search needs
+
+normalize-children-enum-told : (t : ℕ) → normalize-children-lts.Need-enum-told (normalize-children-claims t) (normalize-children-at t) normalize-children.Post
+normalize-children-enum-told t c = search needs
+
+normalize-children-refusal-requires : (t : ℕ) → normalize-children-lts.Need-refusal-requires (normalize-children-claims t) (normalize-children-at t) normalize-children.Post
+normalize-children-refusal-requires t c κs = search needs
+
+normalize-children-same-length : (t : ℕ) → normalize-children-lts.Need-same-length (normalize-children-claims t) (normalize-children-at t) normalize-children.Post
+normalize-children-same-length t c = search needs
+
+normalize-children-same-length-2 : (t : ℕ) → normalize-children-lts.Need-same-length-2 (normalize-children-claims t) (normalize-children-at t) normalize-children.Post
+normalize-children-same-length-2 t c = search needs
+
+normalize-children-returns : (t : ℕ) → normalize-children-lts.Need-returns (normalize-children-claims t) (normalize-children-at t) normalize-children.Post
+normalize-children-returns t c = (other-refused (c .before .before .before .before .before .before .before .before .before .before .before .before .before .before .before .before .before .before .pre .1 .0) (c .before .before .before .before .before .before .before .before .before .before .before .before .before .all-children .ensures) (c .before .before .before .before .before .before .before .normalize-each .ensures .0) (told-on run.Refused run-out (λ e. refl) (c .before .enum-told .given .1) (c .refusal .ensures)), covers-refused)
+
+normalize-children-rebuild-requires : (t : ℕ) → normalize-children-lts.Need-rebuild-requires (normalize-children-claims t) (normalize-children-at t) normalize-children.Post
+normalize-children-rebuild-requires t c κs = (rebuilding (c .before .before .before .before .before .before .before .before .before .before .before .before .before .before .before .before .before .before .before .before .before .before .before .pre .1 .0 .ready) (c .before .before .before .before .before .before .before .before .before .before .before .before .before .before .before .before .before .before .all-children .ensures) (c .before .before .before .before .before .before .before .before .before .before .before .before .normalize-each .ensures .0) (c .before .before .before .before .before .before .r .given .1), c .before .before .before .before .before .before .before .before .before .before .before .before .normalize-each .ensures .1 .is _ (c .before .before .before .before .before .before .r .given .1))
+
+normalize-children-same-length-3 : (t : ℕ) → normalize-children-lts.Need-same-length-3 (normalize-children-claims t) (normalize-children-at t) normalize-children.Post
+normalize-children-same-length-3 t c = search needs
+
+normalize-children-same-length-4 : (t : ℕ) → normalize-children-lts.Need-same-length-4 (normalize-children-claims t) (normalize-children-at t) normalize-children.Post
+normalize-children-same-length-4 t c = search needs
+
+normalize-children-returns-2 : (t : ℕ) → normalize-children-lts.Need-returns-2 (normalize-children-claims t) (normalize-children-at t) normalize-children.Post
+normalize-children-returns-2 t c = (other-done (c .before .before .before .before .before .before .before .before .before .before .before .before .before .before .before .before .before .before .before .before .before .before .before .before .before .before .before .before .pre .1 .0) (c .before .before .before .before .before .before .before .before .before .before .before .before .before .before .before .before .before .before .before .before .before .before .before .all-children .ensures) (c .before .before .before .before .before .before .before .before .before .before .before .before .before .before .before .before .before .normalize-each .ensures .0) (c .before .before .before .before .before .before .before .before .before .before .before .r .given .1) (c .before .before .before .before .rebuild .ensures .0) (search needs) (search needs) (search needs) (search needs), search needs)
 
 abbrev normalize-each-Inv-loop : normalize-each-lts.InvT-loop
 normalize-each-Inv-loop words₀ starts₀ n items₀ count cache₀ filter₀ last₀ i₀ words starts items cache filter last i =
@@ -223,7 +284,7 @@ normalize-each-item-at-requires t c κs = search turn-item
 
 normalize-each-normalize-set-ops-cached-requires :
     (t : ℕ) → normalize-each-lts.Need-normalize-set-ops-cached-requires (normalize-each-claims t) (normalize-each-at t) normalize-each.Post normalize-each-Inv-loop normalize-each-μ-loop
-normalize-each-normalize-set-ops-cached-requires t c κs = (search turn-falls, (search (turn-ready, lawful), search needs))
+normalize-each-normalize-set-ops-cached-requires t c κs = (search item-falls, (search (turn-ready, lawful), search needs))
 
 normalize-each-enum-known-r : (t : ℕ) → normalize-each-lts.Need-enum-known-r (normalize-each-claims t) (normalize-each-at t) normalize-each.Post normalize-each-Inv-loop normalize-each-μ-loop
 normalize-each-enum-known-r t c = search needs
@@ -309,78 +370,42 @@ normalize-set-ops-cached-same-length-4 t c = search needs
 normalize-set-ops-cached-returns-3 : (t : ℕ) → normalize-set-ops-cached-lts.Need-returns-3 (normalize-set-ops-cached-claims t) (normalize-set-ops-cached-at t) normalize-set-ops-cached.Post
 normalize-set-ops-cached-returns-3 t c = (search (remembered, lawful), search covers-told)
 
-normalize-set-ops-uncached-wide-requires :
-    (t : ℕ) → normalize-set-ops-uncached-lts.Need-wide-requires (normalize-set-ops-uncached-claims t) (normalize-set-ops-uncached-at t) normalize-set-ops-uncached.Post
+normalize-set-ops-uncached-wide-requires : (t : ℕ) → normalize-set-ops-uncached-lts.Need-wide-requires (normalize-set-ops-uncached-claims t) (normalize-set-ops-uncached-at t) normalize-set-ops-uncached.Post
 normalize-set-ops-uncached-wide-requires t c κs = search needs
 
-normalize-set-ops-uncached-kind-at-requires :
-    (t : ℕ) → normalize-set-ops-uncached-lts.Need-kind-at-requires (normalize-set-ops-uncached-claims t) (normalize-set-ops-uncached-at t) normalize-set-ops-uncached.Post
+normalize-set-ops-uncached-kind-at-requires : (t : ℕ) → normalize-set-ops-uncached-lts.Need-kind-at-requires (normalize-set-ops-uncached-claims t) (normalize-set-ops-uncached-at t) normalize-set-ops-uncached.Post
 normalize-set-ops-uncached-kind-at-requires t c κs = search ready-wide
 
-normalize-set-ops-uncached-flatten-set-op-cached-requires :
-    (t : ℕ) → normalize-set-ops-uncached-lts.Need-flatten-set-op-cached-requires (normalize-set-ops-uncached-claims t) (normalize-set-ops-uncached-at t) normalize-set-ops-uncached.Post
-normalize-set-ops-uncached-flatten-set-op-cached-requires t c κs = (search each-falls, (search list-ready, search needs))
+normalize-set-ops-uncached-normalize-children-requires : (t : ℕ) → normalize-set-ops-uncached-lts.Need-normalize-children-requires (normalize-set-ops-uncached-claims t) (normalize-set-ops-uncached-at t) normalize-set-ops-uncached.Post
+normalize-set-ops-uncached-normalize-children-requires t c κs = (search other-falls, (other-ready (c .before .before .before .before .before .before .before .before .before .before .before .pre .1 .0) (c .before .before .before .before .before .before .wide .ensures) (c .before .before .before .before .before .kind-at .ensures) (c .before .before .before .before .if1 .taken), search needs))
 
 normalize-set-ops-uncached-same-length : (t : ℕ) → normalize-set-ops-uncached-lts.Need-same-length (normalize-set-ops-uncached-claims t) (normalize-set-ops-uncached-at t) normalize-set-ops-uncached.Post
 normalize-set-ops-uncached-same-length t c = search needs
 
-normalize-set-ops-uncached-same-length-2 :
-    (t : ℕ) → normalize-set-ops-uncached-lts.Need-same-length-2 (normalize-set-ops-uncached-claims t) (normalize-set-ops-uncached-at t) normalize-set-ops-uncached.Post
+normalize-set-ops-uncached-same-length-2 : (t : ℕ) → normalize-set-ops-uncached-lts.Need-same-length-2 (normalize-set-ops-uncached-claims t) (normalize-set-ops-uncached-at t) normalize-set-ops-uncached.Post
 normalize-set-ops-uncached-same-length-2 t c = search needs
 
 normalize-set-ops-uncached-returns : (t : ℕ) → normalize-set-ops-uncached-lts.Need-returns (normalize-set-ops-uncached-claims t) (normalize-set-ops-uncached-at t) normalize-set-ops-uncached.Post
 normalize-set-ops-uncached-returns t c = search needs
 
-normalize-set-ops-uncached-all-children-requires :
-    (t : ℕ) → normalize-set-ops-uncached-lts.Need-all-children-requires (normalize-set-ops-uncached-claims t) (normalize-set-ops-uncached-at t) normalize-set-ops-uncached.Post
-normalize-set-ops-uncached-all-children-requires t c κs = search ready-range
+normalize-set-ops-uncached-flatten-set-op-cached-requires : (t : ℕ) → normalize-set-ops-uncached-lts.Need-flatten-set-op-cached-requires (normalize-set-ops-uncached-claims t) (normalize-set-ops-uncached-at t) normalize-set-ops-uncached.Post
+normalize-set-ops-uncached-flatten-set-op-cached-requires t c κs = (search list-falls, (search list-ready, search needs))
 
-normalize-set-ops-uncached-normalize-each-requires :
-    (t : ℕ) → normalize-set-ops-uncached-lts.Need-normalize-each-requires (normalize-set-ops-uncached-claims t) (normalize-set-ops-uncached-at t) normalize-set-ops-uncached.Post
-normalize-set-ops-uncached-normalize-each-requires t c κs = (search each-falls, (search children-ready, search needs))
-
-normalize-set-ops-uncached-enum-known-r :
-    (t : ℕ) → normalize-set-ops-uncached-lts.Need-enum-known-r (normalize-set-ops-uncached-claims t) (normalize-set-ops-uncached-at t) normalize-set-ops-uncached.Post
-normalize-set-ops-uncached-enum-known-r t c = search needs
-
-normalize-set-ops-uncached-enum-told : (t : ℕ) → normalize-set-ops-uncached-lts.Need-enum-told (normalize-set-ops-uncached-claims t) (normalize-set-ops-uncached-at t) normalize-set-ops-uncached.Post
-normalize-set-ops-uncached-enum-told t c = search needs
-
-normalize-set-ops-uncached-refusal-requires :
-    (t : ℕ) → normalize-set-ops-uncached-lts.Need-refusal-requires (normalize-set-ops-uncached-claims t) (normalize-set-ops-uncached-at t) normalize-set-ops-uncached.Post
-normalize-set-ops-uncached-refusal-requires t c κs = search needs
-
-normalize-set-ops-uncached-same-length-3 :
-    (t : ℕ) → normalize-set-ops-uncached-lts.Need-same-length-3 (normalize-set-ops-uncached-claims t) (normalize-set-ops-uncached-at t) normalize-set-ops-uncached.Post
+normalize-set-ops-uncached-same-length-3 : (t : ℕ) → normalize-set-ops-uncached-lts.Need-same-length-3 (normalize-set-ops-uncached-claims t) (normalize-set-ops-uncached-at t) normalize-set-ops-uncached.Post
 normalize-set-ops-uncached-same-length-3 t c = search needs
 
-normalize-set-ops-uncached-same-length-4 :
-    (t : ℕ) → normalize-set-ops-uncached-lts.Need-same-length-4 (normalize-set-ops-uncached-claims t) (normalize-set-ops-uncached-at t) normalize-set-ops-uncached.Post
+normalize-set-ops-uncached-same-length-4 : (t : ℕ) → normalize-set-ops-uncached-lts.Need-same-length-4 (normalize-set-ops-uncached-claims t) (normalize-set-ops-uncached-at t) normalize-set-ops-uncached.Post
 normalize-set-ops-uncached-same-length-4 t c = search needs
 
 normalize-set-ops-uncached-returns-2 : (t : ℕ) → normalize-set-ops-uncached-lts.Need-returns-2 (normalize-set-ops-uncached-claims t) (normalize-set-ops-uncached-at t) normalize-set-ops-uncached.Post
-normalize-set-ops-uncached-returns-2 t c = (other-refused (c .before .before .before .before .before .before .before .before .before .before .before .before .before .before .before .before .before .before .before .before .before .before .before .pre .1 .0) (c .before .before .before .before .before .before .before .before .before .before .before .before .before .before .before .before .before .before .wide .ensures) (c .before .before .before .before .before .before .before .before .before .before .before .before .before .before .before .before .before .kind-at .ensures) (c .before .before .before .before .before .before .before .before .before .before .before .before .before .all-children .ensures) (c .before .before .before .before .before .before .before .normalize-each .ensures .0) (told-on run.Refused run-out (λ e. refl) (c .before .enum-told .given .1) (c .refusal .ensures)) (search needs), covers-refused)
+normalize-set-ops-uncached-returns-2 t c = search needs
 
-normalize-set-ops-uncached-rebuild-requires :
-    (t : ℕ) → normalize-set-ops-uncached-lts.Need-rebuild-requires (normalize-set-ops-uncached-claims t) (normalize-set-ops-uncached-at t) normalize-set-ops-uncached.Post
-normalize-set-ops-uncached-rebuild-requires t c κs = (rebuilding (c .before .before .before .before .before .before .before .before .before .before .before .before .before .before .before .before .before .before .before .before .before .before .before .before .before .before .before .before .pre .1 .0) (c .before .before .before .before .before .before .before .before .before .before .before .before .before .before .before .before .before .before .all-children .ensures) (c .before .before .before .before .before .before .before .before .before .before .before .before .normalize-each .ensures .0) (c .before .before .before .before .before .before .r .given .1), c .before .before .before .before .before .before .before .before .before .before .before .before .normalize-each .ensures .1 .is _ (c .before .before .before .before .before .before .r .given .1))
-
-normalize-set-ops-uncached-same-length-5 :
-    (t : ℕ) → normalize-set-ops-uncached-lts.Need-same-length-5 (normalize-set-ops-uncached-claims t) (normalize-set-ops-uncached-at t) normalize-set-ops-uncached.Post
-normalize-set-ops-uncached-same-length-5 t c = search needs
-
-normalize-set-ops-uncached-same-length-6 :
-    (t : ℕ) → normalize-set-ops-uncached-lts.Need-same-length-6 (normalize-set-ops-uncached-claims t) (normalize-set-ops-uncached-at t) normalize-set-ops-uncached.Post
-normalize-set-ops-uncached-same-length-6 t c = search needs
-
-normalize-set-ops-uncached-returns-3 : (t : ℕ) → normalize-set-ops-uncached-lts.Need-returns-3 (normalize-set-ops-uncached-claims t) (normalize-set-ops-uncached-at t) normalize-set-ops-uncached.Post
-normalize-set-ops-uncached-returns-3 t c = (other-done (c .before .before .before .before .before .before .before .before .before .before .before .before .before .before .before .before .before .before .before .before .before .before .before .before .before .before .before .before .before .before .before .before .before .pre .1 .0) (c .before .before .before .before .before .before .before .before .before .before .before .before .before .before .before .before .before .before .before .before .before .before .before .before .before .before .before .before .wide .ensures) (c .before .before .before .before .before .before .before .before .before .before .before .before .before .before .before .before .before .before .before .before .before .before .before .before .before .before .before .kind-at .ensures) (c .before .before .before .before .before .before .before .before .before .before .before .before .before .before .before .before .before .before .before .before .before .before .before .all-children .ensures) (c .before .before .before .before .before .before .before .before .before .before .before .before .before .before .before .before .before .normalize-each .ensures .0) (c .before .before .before .before .before .before .before .before .before .before .before .r .given .1) (c .before .before .before .before .rebuild .ensures .0) (c .before .before .before .before .before .before .before .before .before .before .before .before .before .before .before .before .before .before .before .before .before .before .before .before .before .before .if1 .left) (search needs) (search needs) (search needs) (search needs), search needs)
-
-pub +flatten-set-op-cached+normalize-each+normalize-set-ops-cached+normalize-set-ops-uncached-spec :
+pub +flatten-set-op-cached+normalize-children+normalize-each+normalize-set-ops-cached+normalize-set-ops-uncached-spec :
     {M : Type 1} → statement M
-+flatten-set-op-cached+normalize-each+normalize-set-ops-cached+normalize-set-ops-uncached-spec =
++flatten-set-op-cached+normalize-children+normalize-each+normalize-set-ops-cached+normalize-set-ops-uncached-spec =
     close
     μ-flatten-set-op-cached
+    μ-normalize-children
     μ-normalize-each
     μ-normalize-set-ops-cached
     μ-normalize-set-ops-uncached
@@ -407,6 +432,21 @@ pub +flatten-set-op-cached+normalize-each+normalize-set-ops-cached+normalize-set
     (flatten-set-op-cached-same-length-3 t)
     (flatten-set-op-cached-same-length-4 t)
     (flatten-set-op-cached-returns-2 t))
+    (λ t. normalize-children-lts.spec (normalize-children-claims t)
+    (normalize-children-at t)
+    normalize-children.Post
+    (normalize-children-all-children-requires t)
+    (normalize-children-normalize-each-requires t)
+    (normalize-children-enum-known-r t)
+    (normalize-children-enum-told t)
+    (normalize-children-refusal-requires t)
+    (normalize-children-same-length t)
+    (normalize-children-same-length-2 t)
+    (normalize-children-returns t)
+    (normalize-children-rebuild-requires t)
+    (normalize-children-same-length-3 t)
+    (normalize-children-same-length-4 t)
+    (normalize-children-returns-2 t))
     (λ t. normalize-each-lts.spec (normalize-each-claims t)
     (normalize-each-at t)
     normalize-each.Post
@@ -450,19 +490,11 @@ pub +flatten-set-op-cached+normalize-each+normalize-set-ops-cached+normalize-set
     normalize-set-ops-uncached.Post
     (normalize-set-ops-uncached-wide-requires t)
     (normalize-set-ops-uncached-kind-at-requires t)
-    (normalize-set-ops-uncached-flatten-set-op-cached-requires t)
+    (normalize-set-ops-uncached-normalize-children-requires t)
     (normalize-set-ops-uncached-same-length t)
     (normalize-set-ops-uncached-same-length-2 t)
     (normalize-set-ops-uncached-returns t)
-    (normalize-set-ops-uncached-all-children-requires t)
-    (normalize-set-ops-uncached-normalize-each-requires t)
-    (normalize-set-ops-uncached-enum-known-r t)
-    (normalize-set-ops-uncached-enum-told t)
-    (normalize-set-ops-uncached-refusal-requires t)
+    (normalize-set-ops-uncached-flatten-set-op-cached-requires t)
     (normalize-set-ops-uncached-same-length-3 t)
     (normalize-set-ops-uncached-same-length-4 t)
     (normalize-set-ops-uncached-returns-2 t)
-    (normalize-set-ops-uncached-rebuild-requires t)
-    (normalize-set-ops-uncached-same-length-5 t)
-    (normalize-set-ops-uncached-same-length-6 t)
-    (normalize-set-ops-uncached-returns-3 t)
