@@ -161,7 +161,7 @@ module _ {w₀ s₀ : List ℕ} {c₀ : Counters} {n number : ℕ} {entries₀ :
         let y = child-lower (R .table) (R .source) g n (R .inside) i (omega (arith, h, total-is (R .holds) (R .beside) (R .inside))) in
         omega (arith, y, member-is (R .holds) (R .beside) (R .inside) (R .cache))
 
-    pub flat-falls : {t : ℕ} → 4 * n ≡ t → 4 * x + 3 < t
+    pub flat-falls : {t : ℕ} → 4 * n + 1 ≡ t → 4 * x + 4 < t
     flat-falls q = omega (arith, lower, q)
 
     -- the limits are as at the start

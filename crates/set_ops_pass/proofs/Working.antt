@@ -72,7 +72,7 @@ interns-as {w} {s} {c} {n} {items} {count} R = record {
 
 -- a child's measure is below that of all children
 pub item-falls : {w₀ s₀ : List ℕ} {c₀ : Counters} {n : ℕ} {items₀ : List ℕ} {count : ℕ} {entries₀ w s items entries : List ℕ} {last : Counters} {i : ℕ} → Turn normalize Grown w₀ s₀ c₀ n items₀ count entries₀ w s items entries last i
-    → i < count → {x : ℕ} → x ≡ getD items i 0 → {t : ℕ} → 4 * n ≡ t → 4 * x + 3 < t
+    → i < count → {x : ℕ} → x ≡ getD items i 0 → {t : ℕ} → 4 * n + 1 ≡ t → 4 * x + 4 < t
 item-falls {n = n} T h {x} e q = let l : 3 * x + 2 < 3 * n = turn-falls T h e refl in omega (arith, l, q)
 
 module _ {w s : List ℕ} {c : Counters} {n : ℕ} {entries : List ℕ} (P : Ready normalize Grown w s c n entries) where
@@ -85,17 +85,9 @@ module _ {w s : List ℕ} {c : Counters} {n : ℕ} {entries : List ℕ} (P : Rea
   pub ready-wide : {x : ℕ} → x ≡ n → InRange w s c x
   ready-wide e = range-wide e ready-range
 
-  pub each-falls : {t : ℕ} → 4 * n + 1 ≡ t → 4 * n < t
-  each-falls e = omega (arith, e)
-
-  pub list-falls : {t : ℕ} → 4 * n + 2 ≡ t → 4 * n < t
-  list-falls e = omega (arith, e)
-
-  pub other-falls : {t : ℕ} → 4 * n + 2 ≡ t → 4 * n + 1 < t
-  other-falls e = omega (arith, e)
-
-  pub same-falls : {t : ℕ} → 4 * n + 3 ≡ t → 4 * n + 2 < t
-  same-falls e = omega (arith, e)
+  -- the measure of one of the cycle's functions and of one that it calls on the same node
+  pub same-falls : (d e : ℕ) → d < e → {t : ℕ} → 4 * n + e ≡ t → 4 * n + d < t
+  same-falls d e h q = omega (arith, h, q)
 
   module _ {x k : ℕ} (e : x ≡ n) (K : KindAt w s c x k) where
     kind-of : (table : ℕ) (a : Arena) → Holds table w s c a → k ≡ disc (kind (tag (at a n)))

@@ -18,7 +18,7 @@ use Rattle.recursion.proofs.Remembering.{ready-small, cached-done, remember-roo
 use Rattle.recursion.proofs.Turns.{Turn, turn-start, turn-item, turn-ready, turn-refused, turn-more, turn-done}
 use Rattle.set_op_lists.specs.SetOps.{normalize}
 use Rattle.set_ops_pass.proofs.Normalizing.{lawful}
-use Rattle.set_ops_pass.proofs.Working.{item-falls, ready-range, ready-wide, each-falls, list-falls, other-falls, same-falls, list-ready, other-ready, children-ready, rebuilding, other-refused, other-done}
+use Rattle.set_ops_pass.proofs.Working.{item-falls, ready-range, ready-wide, same-falls, list-ready, other-ready, children-ready, rebuilding, other-refused, other-done}
 use Rattle.set_ops_pass.proofs.Flattening.{FlatTurn, brought-covers, list-range, flat-start, flat-near, flat-member, flat-falls, flat-ready, flat-brings, flat-refused, flat-more, flat-filled, flat-done}
 use borrow.Fn.Kinds.{In}
 use borrow.Fn.PlainCycle.{Measures, is, falls, and}
@@ -59,19 +59,19 @@ use Rattle.recursion.proofs.Run.refusal.Reads as Run-refusal-reads
 use Rattle.set_op_lists.proofs.Brought.refusal.Reads as Brought-refusal-reads
 
 abbrev μ-flatten-set-op-cached : Measures 4 flatten-set-op-cached-kinds.ps ℕ
-μ-flatten-set-op-cached κs a = 4 * (a .1 .1 .1 .0)
+μ-flatten-set-op-cached κs a = 4 * (a .1 .1 .1 .0) + 1
 
 abbrev μ-normalize-children : Measures 4 normalize-children-kinds.ps ℕ
-μ-normalize-children κs a = 4 * (a .1 .1 .1 .0) + 1
+μ-normalize-children κs a = 4 * (a .1 .1 .1 .0) + 2
 
 abbrev μ-normalize-each : Measures 5 normalize-each-kinds.ps ℕ
-μ-normalize-each κs a = 4 * (a .1 .1 .1 .0)
+μ-normalize-each κs a = 4 * (a .1 .1 .1 .0) + 1
 
 abbrev μ-normalize-set-ops-cached : Measures 4 normalize-set-ops-cached-kinds.ps ℕ
-μ-normalize-set-ops-cached κs a = 4 * (a .1 .1 .1 .0) + 3
+μ-normalize-set-ops-cached κs a = 4 * (a .1 .1 .1 .0) + 4
 
 abbrev μ-normalize-set-ops-uncached : Measures 4 normalize-set-ops-uncached-kinds.ps ℕ
-μ-normalize-set-ops-uncached κs a = 4 * (a .1 .1 .1 .0) + 2
+μ-normalize-set-ops-uncached κs a = 4 * (a .1 .1 .1 .0) + 3
 
 abbrev flatten-set-op-cached-at : ℕ → In 4 flatten-set-op-cached-kinds.ps
 flatten-set-op-cached-at t =
@@ -237,7 +237,7 @@ normalize-children-all-children-requires : (t : ℕ) → normalize-children-lts.
 normalize-children-all-children-requires t c κs = search ready-range
 
 normalize-children-normalize-each-requires : (t : ℕ) → normalize-children-lts.Need-normalize-each-requires (normalize-children-claims t) (normalize-children-at t) normalize-children.Post
-normalize-children-normalize-each-requires t c κs = (search each-falls, (search children-ready, search needs))
+normalize-children-normalize-each-requires t c κs = (search (same-falls, needs), (search children-ready, search needs))
 
 normalize-children-enum-known-r : (t : ℕ) → normalize-children-lts.Need-enum-known-r (normalize-children-claims t) (normalize-children-at t) normalize-children.Post
 normalize-children-enum-known-r t c = search needs
@@ -340,7 +340,7 @@ normalize-set-ops-cached-returns t c = (search (cached-done, lawful), search cov
 
 normalize-set-ops-cached-normalize-set-ops-uncached-requires :
     (t : ℕ) → normalize-set-ops-cached-lts.Need-normalize-set-ops-uncached-requires (normalize-set-ops-cached-claims t) (normalize-set-ops-cached-at t) normalize-set-ops-cached.Post
-normalize-set-ops-cached-normalize-set-ops-uncached-requires t c κs = (search same-falls, search needs)
+normalize-set-ops-cached-normalize-set-ops-uncached-requires t c κs = (search (same-falls, needs), search needs)
 
 normalize-set-ops-cached-enum-known-r : (t : ℕ) → normalize-set-ops-cached-lts.Need-enum-known-r (normalize-set-ops-cached-claims t) (normalize-set-ops-cached-at t) normalize-set-ops-cached.Post
 normalize-set-ops-cached-enum-known-r t c = search needs
@@ -377,7 +377,7 @@ normalize-set-ops-uncached-kind-at-requires : (t : ℕ) → normalize-set-ops-un
 normalize-set-ops-uncached-kind-at-requires t c κs = search ready-wide
 
 normalize-set-ops-uncached-normalize-children-requires : (t : ℕ) → normalize-set-ops-uncached-lts.Need-normalize-children-requires (normalize-set-ops-uncached-claims t) (normalize-set-ops-uncached-at t) normalize-set-ops-uncached.Post
-normalize-set-ops-uncached-normalize-children-requires t c κs = (search other-falls, (other-ready (c .before .before .before .before .before .before .before .before .before .before .before .pre .1 .0) (c .before .before .before .before .before .before .wide .ensures) (c .before .before .before .before .before .kind-at .ensures) (c .before .before .before .before .if1 .taken), search needs))
+normalize-set-ops-uncached-normalize-children-requires t c κs = (search (same-falls, needs), (other-ready (c .before .before .before .before .before .before .before .before .before .before .before .pre .1 .0) (c .before .before .before .before .before .before .wide .ensures) (c .before .before .before .before .before .kind-at .ensures) (c .before .before .before .before .if1 .taken), search needs))
 
 normalize-set-ops-uncached-same-length : (t : ℕ) → normalize-set-ops-uncached-lts.Need-same-length (normalize-set-ops-uncached-claims t) (normalize-set-ops-uncached-at t) normalize-set-ops-uncached.Post
 normalize-set-ops-uncached-same-length t c = search needs
@@ -389,7 +389,7 @@ normalize-set-ops-uncached-returns : (t : ℕ) → normalize-set-ops-uncached-lt
 normalize-set-ops-uncached-returns t c = search needs
 
 normalize-set-ops-uncached-flatten-set-op-cached-requires : (t : ℕ) → normalize-set-ops-uncached-lts.Need-flatten-set-op-cached-requires (normalize-set-ops-uncached-claims t) (normalize-set-ops-uncached-at t) normalize-set-ops-uncached.Post
-normalize-set-ops-uncached-flatten-set-op-cached-requires t c κs = (search list-falls, (search list-ready, search needs))
+normalize-set-ops-uncached-flatten-set-op-cached-requires t c κs = (search (same-falls, needs), (search list-ready, search needs))
 
 normalize-set-ops-uncached-same-length-3 : (t : ℕ) → normalize-set-ops-uncached-lts.Need-same-length-3 (normalize-set-ops-uncached-claims t) (normalize-set-ops-uncached-at t) normalize-set-ops-uncached.Post
 normalize-set-ops-uncached-same-length-3 t c = search needs
