@@ -5,7 +5,7 @@ use types::Counters;
 use types::arc_ty::wide;
 
 // An answer put, or none.
-#[derive(Drop)]
+#[derive(Clone, Copy)]
 pub enum Step {
     Done { used: usize, held: usize },
     // The case isn't there whole, or has a number of no call.

@@ -1,6 +1,8 @@
 // Texts put one behind another into lent bytes, and names as they are spelled. `append` is the one function that writes: it is
 // given how many bytes are written and says how many there are then. A count over the number of lent bytes says that the text
 // didn't fit; nothing is written from then on.
+#![tactic(auto)]
+
 pub mod spelled;
 
 ghost use Rattle.appending.specs.Parts.{when, between};

@@ -1,4 +1,6 @@
 // `intern` and `compare`, two calls open to a host. specs/Intern.antt and specs/Compare.antt say what they answer and leave.
+#![tactic(auto)]
+
 ghost use Rattle.std.specs.Prelude.{◌≡◌};
 ghost use Rattle.arena.specs.Intern.{intern_reply};
 ghost use Rattle.arena.specs.Inner.{InternsWords};
@@ -53,7 +55,7 @@ pub fn intern(
 }
 
 // How two nodes stand, or the number of a refusal.
-#[derive(Drop)]
+#[derive(Clone, Copy)]
 pub enum Compared {
     Stand(Ordering),
     Refused(u32),

@@ -1,4 +1,6 @@
 // Sets of numbers, one bit a number: rows of words of any length, and for node numbers 64 words of 64 bits.
+#![tactic(auto)]
+
 ghost use Rattle.std.specs.Prelude.{◌/◌, ◌<◌, ◌≡◌, length};
 ghost use Rattle.bits.specs.Bits.{has, Put, Combined, either, either_word, count_below};
 ghost use Rattle.bits.specs.Inner.{Row, Union, SymmetricDifference, Ones};

@@ -1,6 +1,8 @@
 // `intern` at its limits: what is just taken, and one past it what is refused. It prints a line a call: the node's number and
 // the counters after, or the number of the refusal. Words that are no node's are written out; all others go through `Head` and
 // `field_word`.
+#![tactic(auto)]
+
 use arena::intern;
 use node_store::added::Interned;
 use types::Counters;

@@ -16,7 +16,7 @@ fn clear(words: &mut [u32]) {
 }
 
 // How many words are lent, and where the case goes on.
-#[derive(Drop)]
+#[derive(Clone, Copy)]
 pub struct Lent {
     pub count: usize,
     pub next: usize,
@@ -46,7 +46,7 @@ fn lend(s: &[u8], at: usize, into: &mut [u32]) -> Lent {
 }
 
 // How many words and starts are lent, with which counters, and where the case goes on.
-#[derive(Drop)]
+#[derive(Clone, Copy)]
 pub struct LentMemory {
     pub counters: Counters,
     pub words: usize,
@@ -72,7 +72,7 @@ pub fn lend_memory(s: &[u8], at: usize, words: &mut Words, starts: &mut Words) -
 }
 
 // What a host lends: the name table, which is `s[5..table]`, and memory.
-#[derive(Drop)]
+#[derive(Clone, Copy)]
 pub struct Host {
     pub table: usize,
     pub counters: Counters,

@@ -5,7 +5,7 @@ use crate::numbers::{add, part};
 pub type Buffer = [u8; 1572864];
 
 // Which bytes of the buffer are read and not yet used, and whether the input has ended.
-#[derive(Drop)]
+#[derive(Clone, Copy)]
 pub struct Input {
     pub at: usize,
     pub end: usize,

@@ -1,4 +1,6 @@
 // `compact`: the type of a root is copied into an arena that has no other node.
+#![tactic(auto)]
+
 ghost use Rattle.std.specs.Prelude.{◌≡◌};
 ghost use Rattle.node_store.specs.Inner.Stored.{Lent};
 ghost use Rattle.compact.specs.Compact.{compact_reply, left};
@@ -12,14 +14,14 @@ use types::Counters;
 use types::arc_ty::wide;
 
 // The root's number in the target, or the number of a refusal.
-#[derive(Drop)]
+#[derive(Clone, Copy)]
 pub enum Copied {
     Root(u32),
     Refused(u32),
 }
 
 // The answer, and the counters of the target, which a refusal may change too.
-#[derive(Drop)]
+#[derive(Clone, Copy)]
 pub struct Compacted {
     pub answer: Copied,
     pub counters: Counters,

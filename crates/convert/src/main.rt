@@ -1,5 +1,7 @@
 // Reads one old sheet from standard input and writes the new one, or the line that it is refused. A byte past the longest sheet
 // is enough to refuse it, so no more are read; a read that fails ends the sheet as the end of the input does.
+#![tactic(auto)]
+
 use sheet_converting::{Converted, convert_sheet};
 
 fn answer(sheet: &mut [u8]) {

@@ -1,5 +1,7 @@
 // `compact_inner` and its uncached half: a type of one arena, which is only read, is copied into another. A node is copied
 // after its children. A refusal is passed up, and the memory of the target then begins with the arena as it was.
+#![tactic(auto)]
+
 ghost use Rattle.std.specs.Prelude.{◌≡◌, get_or};
 ghost use Rattle.recursion.specs.Inner.Work.{Ready, Does, EachReady, DoesEach};
 ghost use Rattle.copying.specs.Copy.{copy};
@@ -41,7 +43,7 @@ fn intern_copy(
 }
 
 // The copy of node n, remembered. Every copy in the target is, so that a node that isn't remembered is added without a search.
-#[cycle(compact_each_compact_inner_compact_inner_uncached)]
+#[cycle(compacting)]
 pub fn compact_inner(
     words: &[u32],
     starts: &[u32],
@@ -73,7 +75,7 @@ pub fn compact_inner(
 }
 
 // The same, worked out, for a node without an entry.
-#[cycle(compact_each_compact_inner_compact_inner_uncached)]
+#[cycle(compacting)]
 fn compact_inner_uncached(
     words: &[u32],
     starts: &[u32],
@@ -124,7 +126,7 @@ fn compact_inner_uncached(
 }
 
 // The copy of each of the first `count` items, in its place; all are below n.
-#[cycle(compact_each_compact_inner_compact_inner_uncached)]
+#[cycle(compacting)]
 fn compact_each(
     words: &[u32],
     starts: &[u32],

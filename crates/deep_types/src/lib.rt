@@ -1,11 +1,13 @@
 // Types that are deep or have a node at very many places, and document 01's pair of sets, put node by node into lent memory that
 // is zero. For the programs that ask about them.
+#![tactic(auto)]
+
 use types::Counters;
 use types::arc_ty::Head;
 use types::attrset::field_word;
 
 // The node after another in a chain.
-#[derive(Drop)]
+#[derive(Clone, Copy)]
 pub enum Step {
     // Its only child is the node before; two kinds in turn.
     Child(u32, u32),

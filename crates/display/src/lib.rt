@@ -1,5 +1,7 @@
 // The text of a type in lent bytes. `display` and `display_nix` are the calls open to a host; `display_in` is for callers that
 // know the arena sound and its root there. specs/Reply.antt says what they answer and leave.
+#![tactic(auto)]
+
 ghost use Rattle.std.specs.Prelude.{◌≡◌, min, length, replicate};
 ghost use Rattle.types.specs.Out.{number};
 ghost use Rattle.names.specs.Inner.{Listable, Places};
@@ -18,7 +20,7 @@ use types::Counters;
 use types::arc_ty::wide;
 
 // The length of the text, or the number of a refusal.
-#[derive(Drop)]
+#[derive(Clone, Copy)]
 pub enum Displayed {
     Text(usize),
     Refused(u32),

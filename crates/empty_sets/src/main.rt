@@ -1,4 +1,6 @@
 // Both empty sets of document 01, displayed into lent bytes and compared with fixed byte strings.
+#![tactic(auto)]
+
 use display::{Displayed, display};
 use names::compare;
 use types::arc_ty::Head;

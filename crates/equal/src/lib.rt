@@ -1,5 +1,7 @@
 // Structural equality of two types in two arenas, names by text: `node_data` compares what two nodes carry besides their children,
 // `pairs` pairs the nodes that must be equal.
+#![tactic(auto)]
+
 mod node_data;
 mod pairs;
 

@@ -1,6 +1,8 @@
 // Reads a length, a sheet of that length and a fix from standard input, and writes whether the fix fits the sheet's type.
 // specs/Fit.antt says what the line is. A byte past the longest input is enough to refuse it, so no more are read; a read that
 // fails ends the input as its end does.
+#![tactic(auto)]
+
 ghost use Rattle.std.specs.Prelude.{◌≡◌};
 ghost use Rattle.questions.specs.Vars.{asked_out};
 ghost use Rattle.fit.specs.Fit.{sheet_answer, fit_answer, WritesFit};

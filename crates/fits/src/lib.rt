@@ -1,4 +1,6 @@
 // Whether a fix fits a type: the call open to a host. Memory is only read.
+#![tactic(auto)]
+
 ghost use Rattle.std.specs.Prelude.{◌≡◌};
 ghost use Rattle.node_store.specs.Inner.Stored.{Lent};
 ghost use Rattle.questions.specs.Vars.{asked_out};

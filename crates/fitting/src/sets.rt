@@ -12,7 +12,7 @@ use types::arc_ty::child;
 use types::attrset::{field_name, field_optional};
 
 // What a field that the type doesn't name must fit: the dynamic type, or nothing if the set is open.
-#[derive(Drop)]
+#[derive(Clone, Copy)]
 pub enum Other {
     Type(u32),
     Open(bool),

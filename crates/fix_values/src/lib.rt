@@ -1,4 +1,6 @@
 // The values of a fix: whether lent words are one, and where each value stands. specs/Fix.antt says what a fix is.
+#![tactic(auto)]
+
 ghost use Rattle.std.specs.Prelude.{◌≤◌, ◌≡◌};
 ghost use Rattle.types.specs.Node.{below};
 ghost use Rattle.fix_values.specs.Values.{is_value};

@@ -1,4 +1,6 @@
 // The variables of a type, in the order in which a walk first meets them. Memory is only read.
+#![tactic(auto)]
+
 ghost use Rattle.std.specs.Prelude.{◌≡◌, []};
 ghost use Rattle.types.specs.Memory.{padded};
 ghost use Rattle.node_store.specs.Inner.Stored.{Lent, InRange};
@@ -22,7 +24,7 @@ pub struct VarList {
 }
 
 // Whether they are listed, or the number of a refusal.
-#[derive(Drop)]
+#[derive(Clone, Copy)]
 pub enum Answer {
     Listed,
     Refused(u32),
@@ -37,7 +39,7 @@ pub struct FreeVars {
 }
 
 // How many variables are listed where they are lent, or the number of a refusal.
-#[derive(Drop)]
+#[derive(Clone, Copy)]
 pub enum Listed {
     Count(usize),
     Refused(u32),

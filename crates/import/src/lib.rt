@@ -1,4 +1,6 @@
 // `import_from_arena`: the type of a root is imported from one arena into another, each with its own name table.
+#![tactic(auto)]
+
 ghost use Rattle.std.specs.Prelude.{◌<◌, ◌≡◌};
 ghost use Rattle.soundness.specs.Inner.Sides.{Side};
 ghost use Rattle.node_store.specs.Intern.{left};

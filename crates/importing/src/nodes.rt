@@ -101,7 +101,7 @@ fn intern_imported(
 }
 
 // What node n of the source is in the target, remembered. `near` is the number that is likely next there.
-#[cycle(import_each_import_node_import_uncached)]
+#[cycle(importing)]
 pub fn import_node(
     words: &[u32],
     starts: &[u32],
@@ -149,7 +149,7 @@ pub fn import_node(
 }
 
 // The same, worked out.
-#[cycle(import_each_import_node_import_uncached)]
+#[cycle(importing)]
 fn import_uncached(
     words: &[u32],
     starts: &[u32],
@@ -209,7 +209,7 @@ fn import_uncached(
 }
 
 // What each of the first `count` items is in the target, in its place; all are below n.
-#[cycle(import_each_import_node_import_uncached)]
+#[cycle(importing)]
 fn import_each(
     words: &[u32],
     starts: &[u32],

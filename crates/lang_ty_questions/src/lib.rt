@@ -1,6 +1,8 @@
 // The calls of the C interface that ask about a type, a part of the static library (host/archive): each hands its arguments to the
 // call of that name and tells the answer as a number, 0 or that of a refusal. A result is written where it is lent; a refusal
 // writes none.
+#![tactic(auto)]
+
 ghost use Rattle.std.specs.Prelude.{◌≡◌};
 ghost use Rattle.words.specs.Words.{bit};
 ghost use Rattle.types.specs.Out.{number as refusal_number};

@@ -1,6 +1,8 @@
 // The calls of the C interface that rewrite a type, a part of the static library (host/archive): each hands its arguments to the
 // call of that name and tells the answer as a number, 0 or that of a refusal. A result is written where it is lent; a refusal
 // writes none, but 7 clears the target of `compact`.
+#![tactic(auto)]
+
 ghost use Rattle.std.specs.Prelude.{◌≡◌, true, false};
 ghost use Rattle.recursion.specs.Hosted.{work_reply};
 ghost use Rattle.renumber.specs.Renumber.{normalize};

@@ -1,5 +1,7 @@
 // The same nodes interned with the counters by value, lent as a struct, and lent as two numbers: three times the same lines. A
 // line is the answer, then the counters after.
+#![tactic(auto)]
+
 use arena::intern;
 use lent_counters::{Stored, intern_lent, intern_lent_pair};
 use node_store::added::Interned;
@@ -8,7 +10,7 @@ use types::arc_ty::Head;
 use types::attrset::field_word;
 
 // What a call answered, and the counters after.
-#[derive(Drop)]
+#[derive(Clone, Copy)]
 struct Left {
     stored: Stored,
     counters: Counters,

@@ -1,5 +1,7 @@
 // `intern` for a host that keeps one arena and lends its counters to be updated: as a struct, or as two numbers. What both
 // answer and leave is what `arena` says of `intern`.
+#![tactic(auto)]
+
 ghost use Rattle.std.specs.Prelude.{◌≡◌};
 ghost use Rattle.types.specs.Out.{number};
 ghost use Rattle.types.specs.Reply.{reply};
@@ -12,7 +14,7 @@ use node_store::added::Interned;
 use types::Counters;
 
 // A node's number, or the number of a refusal. The counters stand where they were lent.
-#[derive(Drop)]
+#[derive(Clone, Copy)]
 pub enum Stored {
     Node(u32),
     Refused(u32),

@@ -11,7 +11,7 @@ use types::Counters;
 use types::arc_ty::{child, wide};
 
 // How many members the list has, or that a 65th has no room.
-#[derive(Drop)]
+#[derive(Clone, Copy)]
 pub enum Grown {
     Count(usize),
     Full,

@@ -1,4 +1,6 @@
 // What becomes of a union or an intersection, from its members as simplified. Both are one code over the number of their kind.
+#![tactic(auto)]
+
 mod bounds;
 pub mod growing;
 
@@ -16,14 +18,14 @@ use types::Counters;
 use types::arc_ty::Head;
 
 // A list of at most 64 node numbers with its length.
-#[derive(Drop)]
+#[derive(Clone, Copy)]
 pub struct Members {
     pub items: [u32; 64],
     pub count: usize,
 }
 
 // What the list becomes, or that nothing is left of it.
-#[derive(Drop)]
+#[derive(Clone, Copy)]
 pub enum Closed {
     Done(Interned),
     Empty,
@@ -41,7 +43,7 @@ fn first_items(items: &[u32; 65], count: usize) -> &[u32]
 }
 
 // The member that decides a list, if there is one.
-#[derive(Drop)]
+#[derive(Clone, Copy)]
 enum Decision {
     By(u32),
     Open,

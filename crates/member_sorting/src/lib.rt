@@ -1,4 +1,6 @@
 // Members sorted by node order: each is inserted among those before it.
+#![tactic(auto)]
+
 ghost use Rattle.node_store.specs.Inner.Stored.{InRange};
 ghost use Rattle.member_sorting.specs.Inner.{ComesBefore, Placing, PlaceOf, Gap, OpensGap, Inserting, Inserts, Sorting, Sorts};
 

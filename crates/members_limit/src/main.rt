@@ -1,6 +1,8 @@
 // `simplify` where a list of lists has 64 different members or more: which of 7 and 8 is met, and what comes before both. It
 // prints a line a call, each type in each room. What it must print was made by the Rust
 // (compare/reference/src/bin/members_limit.rs).
+#![tactic(auto)]
+
 ghost use Rattle.std.specs.Prelude.{◌≤◌};
 
 use arena::intern;
@@ -23,7 +25,7 @@ const TO_65: u32 = 71;
 const ROOT: u32 = 72;
 
 // How much is lent besides what the type fills.
-#[derive(Drop)]
+#[derive(Clone, Copy)]
 struct Room {
     words: usize,
     starts: usize,

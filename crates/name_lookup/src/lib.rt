@@ -1,5 +1,7 @@
 // A text sought in a name table: the number of the name that it is, or how many names come before it (02, A3). specs/Lookup.antt
 // says where a text stands among names, and specs/Theorems.antt what that tells of each name.
+#![tactic(auto)]
+
 ghost use Rattle.std.specs.Prelude.{◌≡◌};
 ghost use Rattle.names.specs.Table.{split};
 ghost use Rattle.name_lookup.specs.Lookup.{position, find_reply, lookup_out};
@@ -10,14 +12,14 @@ use types::Ordering;
 
 // Where a text stands among the names of a table: whether one of them is the text, and how many come before it. Where one is, that
 // is its number.
-#[derive(Drop)]
+#[derive(Clone, Copy)]
 pub struct Position {
     pub found: bool,
     pub place: u32,
 }
 
 // A text's position, or the number of a refusal.
-#[derive(Drop)]
+#[derive(Clone, Copy)]
 pub enum Lookup {
     At(Position),
     Refused(u32),

@@ -1,11 +1,13 @@
 // Which names of two tables have the same text. Both tables rise, so one walk through both finds it.
+#![tactic(auto)]
+
 ghost use Rattle.name_matching.specs.Inner.{Blank, Maps, Next, Steps};
 
 use names::{compare, end_of};
 use types::Ordering;
 
 // How far the two tables are read: where the next name of each begins, and its number.
-#[derive(Drop)]
+#[derive(Clone, Copy)]
 struct Reading {
     left_at: usize,
     left: usize,

@@ -3,6 +3,8 @@
 // specs/Reply.antt what its check and `name_stretch` answer, and specs/Theorems.antt that the answer is the name's text;
 // proofs/Tables.antt, proofs/Numbers.antt, proofs/Places.antt and proofs/Replies.antt have what a caller may know of a table, of
 // the numbers and the places of its names and of the check's answer.
+#![tactic(auto)]
+
 ghost use Rattle.std.specs.Prelude.{◌≤◌, min, ◌≡◌, length};
 ghost use Rattle.names.specs.Table.{name_order, name_text, may_follow};
 ghost use Rattle.names.specs.Reply.{table_reply, table_out, name_reply, placed_out};
@@ -119,7 +121,7 @@ pub fn end_of(table: &[u8], at: usize) -> usize
 }
 
 // A table's count of names, or the number of its refusal.
-#[derive(Drop)]
+#[derive(Clone, Copy)]
 pub enum Table {
     Names(usize),
     Refused(u32),
@@ -159,7 +161,7 @@ pub fn check_names(table: &[u8]) -> Table
 }
 
 // A stretch of the table: where it starts, and how many bytes it has.
-#[derive(Drop)]
+#[derive(Clone, Copy)]
 pub struct Stretch {
     pub start: usize,
     pub length: usize,
@@ -219,7 +221,7 @@ pub fn name_at<'a>(table: &'a [u8], places: &[u32; 4096], k: usize) -> &'a [u8]
 }
 
 // The stretch of a name's text, or the number of a refusal.
-#[derive(Drop)]
+#[derive(Clone, Copy)]
 pub enum Placed {
     At(Stretch),
     Refused(u32),

@@ -2,6 +2,8 @@
 // don't rise. `head_fits` judges a head alone and `fault` a whole node, which hands the words after the head, as their own
 // stretch, to the function for what its kind has there. types' specs/Fault.antt says the faults in the order of these tests. Most
 // nodes have none, and `clean` sees that in one pass.
+#![tactic(auto)]
+
 ghost use Rattle.std.specs.Prelude.{◌+◌, ◌-◌, ◌*◌, ◌≡◌, ◌∷◌, map, true, false, length, get_or};
 ghost use Rattle.words.specs.Words.{bit, child, child_zero, field_name, field_zero};
 ghost use Rattle.types.specs.Kind.{kind_of, disc, attr_set, named, children, code, fields, name};

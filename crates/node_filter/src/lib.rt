@@ -1,5 +1,7 @@
 // A Bloom filter over the nodes of an arena: three bits of the hash of each node's words are set. A node of which one bit isn't
 // set is none of them, and needs no search. Nothing is asked of the hash: where many nodes share one, more is searched.
+#![tactic(auto)]
+
 ghost use Rattle.std.specs.Prelude.{◌<◌, ◌≡◌, length};
 ghost use Rattle.node_store.specs.Inner.Stored.{Lent, Searched, FoundIn};
 ghost use Rattle.node_store.specs.Inner.Added.{Fresh, Interns};

@@ -1,5 +1,7 @@
 // How two nodes stand in order, read off their words. specs/NodeOrder.antt says it of nodes and specs/WordsOrder.antt of any
 // words; the theorem `words_order_encode` of proofs/Agreement.antt has that the words of formed nodes stand as the nodes do.
+#![tactic(auto)]
+
 ghost use Rattle.std.specs.Prelude.{◌≡◌, get_or, drop};
 ghost use Rattle.words.specs.Words.{bit};
 ghost use Rattle.types.specs.Order.{order, lexicographic};

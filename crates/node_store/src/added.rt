@@ -21,7 +21,7 @@ fn put(words: &mut [u32], at: usize, node: &[u32])
 }
 
 // A node's number and the counters after, or the number of a refusal.
-#[derive(Drop)]
+#[derive(Clone, Copy)]
 pub enum Interned {
     Node(u32, Counters),
     Refused(u32),

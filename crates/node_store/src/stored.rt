@@ -48,7 +48,7 @@ pub fn is_there(words: &[u32], starts: &[u32], c: Counters, n: usize, node: &[u3
     same(node_at(words, starts, c, n), node)
 }
 
-#[derive(Drop)]
+#[derive(Clone, Copy)]
 pub enum Found {
     At(usize),
     Nothing,

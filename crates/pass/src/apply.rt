@@ -26,7 +26,7 @@ fn first_member(words: &[u32], starts: &[u32], c: Counters, n: u32) -> u32
 }
 
 // What node n becomes, remembered.
-#[cycle(apply_each_apply_first_apply_simplification_apply_simplification_uncached)]
+#[cycle(applying)]
 pub fn apply_simplification(
     words: &mut [u32],
     starts: &mut [u32],
@@ -60,7 +60,7 @@ pub fn apply_simplification(
 
 // The same, worked out: of a member list the members that remain are simplified and gathered, of any other node all children.
 // If nothing is left of a list, it is what its first member becomes.
-#[cycle(apply_each_apply_first_apply_simplification_apply_simplification_uncached)]
+#[cycle(applying)]
 fn apply_simplification_uncached(
     words: &mut [u32],
     starts: &mut [u32],
@@ -99,7 +99,7 @@ fn apply_simplification_uncached(
 }
 
 // What the first member of the list n becomes, with no variable removable.
-#[cycle(apply_each_apply_first_apply_simplification_apply_simplification_uncached)]
+#[cycle(applying)]
 fn apply_first(
     words: &mut [u32],
     starts: &mut [u32],
@@ -124,7 +124,7 @@ fn apply_first(
 }
 
 // What each of the first `count` items becomes, in its place; all are below n.
-#[cycle(apply_each_apply_first_apply_simplification_apply_simplification_uncached)]
+#[cycle(applying)]
 fn apply_each(
     words: &mut [u32],
     starts: &mut [u32],

@@ -1,11 +1,13 @@
 // The primitive types, by their codes.
+#![tactic(auto)]
+
 ghost use Rattle.std.specs.Prelude.{◌≡◌};
 ghost use Rattle.types.specs.Short.{short_text};
 ghost use Rattle.primitive.specs.Primitive.{primitive_text, is_number, is_float, is_addable, is_subtype_of};
 
 use types::short_text::ShortText;
 
-#[derive(Drop)]
+#[derive(Clone, Copy)]
 pub struct PrimitiveTy {
     pub code: u32,
 }

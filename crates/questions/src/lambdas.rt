@@ -18,7 +18,7 @@ use types::arc_ty::{Head, wide};
 use walks::reach::reachable;
 
 // The node of the variable that a lambda takes.
-#[derive(Drop)]
+#[derive(Clone, Copy)]
 pub enum Param {
     Var(usize),
     Other,

@@ -25,7 +25,7 @@ fn stands_for(words: &[u32], starts: &[u32], c: Counters, root: usize) -> usize
 }
 
 // A node's number, or that of a refusal.
-#[derive(Drop)]
+#[derive(Clone, Copy)]
 pub enum Unwrapped {
     Node(usize),
     Refused(u32),

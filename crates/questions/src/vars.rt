@@ -73,7 +73,7 @@ pub fn has_var(words: &[u32], starts: &[u32], c: Counters, root: usize, skip: bo
 }
 
 // Whether it is so, or the number of a refusal.
-#[derive(Drop)]
+#[derive(Clone, Copy)]
 pub enum Asked {
     Is(bool),
     Refused(u32),

@@ -11,7 +11,7 @@ use types::Counters;
 use types::arc_ty::{Head, child, wide};
 
 // The children of a node, in their order: a set with a dynamic part has up to 65.
-#[derive(Drop)]
+#[derive(Clone, Copy)]
 pub struct Children {
     pub items: [u32; 65],
     pub count: usize,

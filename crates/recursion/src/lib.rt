@@ -1,4 +1,6 @@
 // What recursions over the nodes of an arena that grows have in common: a cache, the items in turn, and a refused run taken back.
+#![tactic(auto)]
+
 ghost use Rattle.std.specs.Prelude.{◌≡◌, ◌<◌, get_or};
 ghost use Rattle.recursion.specs.Inner.Cache.{CacheRoom, Remembers};
 ghost use Rattle.types.specs.Out.{number};
@@ -8,7 +10,7 @@ use types::Counters;
 use types::arc_ty::wide;
 
 // Whether several nodes were worked on, with the counters after, or the number of a refusal.
-#[derive(Drop)]
+#[derive(Clone, Copy)]
 pub enum Run {
     Went(Counters),
     Refused(u32),

@@ -1,4 +1,6 @@
 // The variables of a type numbered in the order of a first visit: `normalize_vars` and `normalize_replacing_unknown`.
+#![tactic(auto)]
+
 ghost use Rattle.std.specs.Prelude.{◌≡◌, true, false};
 ghost use Rattle.node_store.specs.Inner.Stored.{Lent, InRange};
 ghost use Rattle.node_store.specs.Intern.{left};

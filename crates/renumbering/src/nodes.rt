@@ -14,7 +14,7 @@ use types::Counters;
 use types::arc_ty::{Head, wide};
 
 // What node n becomes, remembered. The variables are listed in the order of their numbers.
-#[cycle(renumber_each_renumber_node_renumber_uncached)]
+#[cycle(renumbering)]
 pub fn renumber_node(
     words: &mut [u32],
     starts: &mut [u32],
@@ -43,7 +43,7 @@ pub fn renumber_node(
 }
 
 // The same, worked out.
-#[cycle(renumber_each_renumber_node_renumber_uncached)]
+#[cycle(renumbering)]
 fn renumber_uncached(
     words: &mut [u32],
     starts: &mut [u32],
@@ -82,7 +82,7 @@ fn renumber_uncached(
 }
 
 // What each of the first `count` items becomes, in its place; all are below n.
-#[cycle(renumber_each_renumber_node_renumber_uncached)]
+#[cycle(renumbering)]
 fn renumber_each(
     words: &mut [u32],
     starts: &mut [u32],

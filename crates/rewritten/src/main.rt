@@ -1,5 +1,7 @@
 // The calls that renumber, sort, copy, compare and import, on types that are deep or have a node at very many places. It prints a line
 // a call. What it must print was made by the Rust (compare/reference/src/bin/rewritten.rs).
+#![tactic(auto)]
+
 mod lines;
 
 use deep_types::{Step, put_chain};

@@ -1,5 +1,7 @@
 // What becomes of a union or an intersection in `normalize_set_ops`, from its members as normalized. Both are one code over the
 // number of their kind.
+#![tactic(auto)]
+
 ghost use Rattle.std.specs.Prelude.{◌<◌, ◌≡◌, []};
 ghost use Rattle.types.specs.Out.{number};
 ghost use Rattle.node_filter.specs.Inner.Filter.{CoversLent, CoversAfter};
@@ -16,7 +18,7 @@ use types::Counters;
 use types::arc_ty::{Head, wide};
 
 // How long the list is after a member, and the counters then, or the number of a refusal.
-#[derive(Drop)]
+#[derive(Clone, Copy)]
 pub enum Brought {
     Held(usize, Counters),
     Refused(u32),

@@ -1,4 +1,6 @@
 // `normalize_set_ops`: unions and intersections flattened, sorted and without repeats.
+#![tactic(auto)]
+
 ghost use Rattle.std.specs.Prelude.{◌≡◌};
 ghost use Rattle.node_store.specs.Inner.Stored.{Lent, InRange};
 ghost use Rattle.node_store.specs.Intern.{left};

@@ -1,5 +1,7 @@
 // The recursion of `normalize_set_ops`: a member list is flattened and sorted, any other node is rebuilt from what its children
 // become. A refusal is passed up, and memory then begins with the arena as it was.
+#![tactic(auto)]
+
 ghost use Rattle.node_store.specs.Inner.Stored.{InRange};
 ghost use Rattle.node_filter.specs.Inner.Filter.{CoversLent, CoversAfter};
 ghost use Rattle.recursion.specs.Inner.Work.{Grown, Ready, Does, EachReady, DoesEach, CoversRun};
@@ -36,7 +38,7 @@ fn member_at(words: &[u32], starts: &[u32], c: Counters, n: u32, i: usize) -> u3
 }
 
 // What node n becomes, remembered.
-#[cycle(flatten_set_op_cached_normalize_children_normalize_each_normalize_set_ops_cached_normalize_set_ops_uncached)]
+#[cycle(normalizing)]
 pub fn normalize_set_ops_cached(
     words: &mut [u32],
     starts: &mut [u32],
@@ -65,7 +67,7 @@ pub fn normalize_set_ops_cached(
 
 // The same, worked out. Lists come last, and any other node has a function of its own, so that LLVM makes one small frame of all
 // (docs/DECISIONS.md).
-#[cycle(flatten_set_op_cached_normalize_children_normalize_each_normalize_set_ops_cached_normalize_set_ops_uncached)]
+#[cycle(normalizing)]
 fn normalize_set_ops_uncached(
     words: &mut [u32],
     starts: &mut [u32],
@@ -89,7 +91,7 @@ fn normalize_set_ops_uncached(
 }
 
 // A node that is no list: its children are normalized, and it is rebuilt from what they become.
-#[cycle(flatten_set_op_cached_normalize_children_normalize_each_normalize_set_ops_cached_normalize_set_ops_uncached)]
+#[cycle(normalizing)]
 fn normalize_children(
     words: &mut [u32],
     starts: &mut [u32],
@@ -114,7 +116,7 @@ fn normalize_children(
 }
 
 // A member list: what each member brings is appended before the next is normalized.
-#[cycle(flatten_set_op_cached_normalize_children_normalize_each_normalize_set_ops_cached_normalize_set_ops_uncached)]
+#[cycle(normalizing)]
 fn flatten_set_op_cached(
     words: &mut [u32],
     starts: &mut [u32],
@@ -155,7 +157,7 @@ fn flatten_set_op_cached(
 }
 
 // What each of the first `count` items becomes, in its place; all are below n.
-#[cycle(flatten_set_op_cached_normalize_children_normalize_each_normalize_set_ops_cached_normalize_set_ops_uncached)]
+#[cycle(normalizing)]
 fn normalize_each(
     words: &mut [u32],
     starts: &mut [u32],

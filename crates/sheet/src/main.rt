@@ -1,5 +1,7 @@
 // Reads a sheet from standard input and writes its line. A byte past the longest sheet is enough to refuse it, so no more are
 // read; a read that fails ends the sheet as the end of the input does.
+#![tactic(auto)]
+
 use sheet_format::sheet_line;
 
 fn main() {

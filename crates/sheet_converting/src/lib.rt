@@ -1,5 +1,7 @@
 // An old sheet made a new one in the lent bytes; `convert_sheet` is the call open to a host. specs/Convert.antt says what it
 // answers and leaves, specs/Theorems.antt that the new sheet says what the old one did.
+#![tactic(auto)]
+
 ghost use Rattle.std.specs.Prelude.{◌≡◌};
 ghost use Rattle.sheet_converting.specs.Convert.{convert_reply, left};
 
@@ -8,7 +10,7 @@ use sheet_writing::write_words;
 use words::Layout;
 
 // That the sheet is converted, or the number of a refusal.
-#[derive(Drop)]
+#[derive(Clone, Copy)]
 pub enum Converted {
     Sheet,
     Refused(u32),

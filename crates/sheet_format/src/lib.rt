@@ -1,5 +1,7 @@
 // The line of a sheet: the sheet is read, the type of its root simplified and printed, with names as the Nix manual writes
 // them. specs/Line.antt says what the line is.
+#![tactic(auto)]
+
 ghost use Rattle.std.specs.Prelude.{◌++◌};
 ghost use Rattle.types.specs.Bytes.{bytes};
 ghost use Rattle.types.specs.Decimal.{decimal};
@@ -19,7 +21,7 @@ use types::short_text::ShortText;
 use words::Layout;
 
 // The root after, the passes made and the length of the text; or the number of a refusal.
-#[derive(Drop)]
+#[derive(Clone, Copy)]
 enum Answer {
     Type(u32, u32, usize),
     Refused(u32),

@@ -1,5 +1,7 @@
 // Reading a sheet from the front: the first fault met is the answer. specs/Sheet.antt says what a sheet is, specs/Reading.antt
 // what `read_sheet` answers.
+#![tactic(auto)]
+
 pub mod bytes;
 pub mod nodes;
 mod table;
@@ -17,7 +19,7 @@ use types::arc_ty::wide;
 use words::Layout;
 
 // Where the table ends, the counters and the root; or the number of a refusal.
-#[derive(Drop)]
+#[derive(Clone, Copy)]
 pub enum Reading {
     Sheet(usize, Counters, u32),
     Refused(u32),

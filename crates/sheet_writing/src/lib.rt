@@ -1,5 +1,7 @@
 // A sheet written from lent memory into lent bytes; `write_sheet` is the call open to a host. specs/Bytes.antt says what the
 // bytes of a sheet are, specs/Theorems.antt that reading takes exactly these, specs/Reply.antt what the call answers and leaves.
+#![tactic(auto)]
+
 ghost use Rattle.std.specs.Prelude.{◌≡◌, ◌%◌};
 ghost use Rattle.appending.specs.Inner.{Writes};
 ghost use Rattle.sheet_writing.specs.Bytes.{number_bytes, opening_bytes, words_bytes};
@@ -12,7 +14,7 @@ use types::Counters;
 use types::arc_ty::wide;
 
 // The length of the sheet, or the number of a refusal.
-#[derive(Drop)]
+#[derive(Clone, Copy)]
 pub enum Written {
     Sheet(usize),
     Refused(u32),

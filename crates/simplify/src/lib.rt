@@ -1,4 +1,6 @@
 // `simplify`: one pass, then more until one changes nothing.
+#![tactic(auto)]
+
 ghost use Rattle.std.specs.Prelude.{◌≡◌};
 ghost use Rattle.types.specs.Out.{number};
 ghost use Rattle.node_store.specs.Inner.Stored.{Lent, InRange};
@@ -18,7 +20,7 @@ use types::arc_ty::wide;
 const MORE_PASSES: u32 = 5;
 
 // The root after, the passes made and the counters, or the number of a refusal.
-#[derive(Drop)]
+#[derive(Clone, Copy)]
 pub enum Simplified {
     Type(u32, u32, Counters),
     Refused(u32),

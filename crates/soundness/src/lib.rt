@@ -1,4 +1,6 @@
 // Whether lent memory holds an arena: `judge` is the first step of every call that is lent one.
+#![tactic(auto)]
+
 ghost use Rattle.std.specs.Prelude.{◌≡◌};
 ghost use Rattle.types.specs.Node.{below};
 ghost use Rattle.soundness.specs.Inner.Sound.{is_sound, Limits, Within, lent_reply, judged_out};
@@ -149,7 +151,7 @@ pub fn sound(words: &[u32], starts: &[u32], c: Counters, names: usize) -> bool
 }
 
 // The count of names under which lent memory holds an arena, or the number of a refusal.
-#[derive(Drop)]
+#[derive(Clone, Copy)]
 pub enum Judged {
     Names(usize),
     Refused(u32),

@@ -1,6 +1,8 @@
 // How a name is printed: as it stands in the table, or as the Nix manual writes it, in quotes unless it is an identifier that
 // isn't reserved. specs/Spelling.antt says which names stand in quotes and what they have there, specs/Reading.antt how the
 // manual reads them, and specs/Theorems.antt that it reads what is written. appending::spelled writes them.
+#![tactic(auto)]
+
 ghost use Rattle.std.specs.Prelude.{◌<◌, ◌≡◌, length, drop};
 ghost use Rattle.types.specs.Same.{same_numbers};
 ghost use Rattle.spelling.specs.Spelling.{letter, begins, continues, identifier, reserved, plain, backslashed};
@@ -9,7 +11,7 @@ use names::compare;
 use types::Ordering;
 
 // The two ways to print a name.
-#[derive(Drop)]
+#[derive(Clone, Copy)]
 pub enum Spelling {
     Bare,
     Nix,

@@ -1,5 +1,7 @@
 // Answers cases of the calls that change memory, and of sheets, from standard input, one line each, until the input ends: what the
 // library says, to be held against what the Rust says of the same cases. A case is a byte that names the call, and its arguments.
+#![tactic(auto)]
+
 mod answers;
 mod copies;
 mod sheets;

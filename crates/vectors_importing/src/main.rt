@@ -1,5 +1,7 @@
 // Answers cases of `import_from_arena` from standard input, one line each, until the input ends: what the library says, to be held
 // against what the Rust says of the same cases. A case is a byte that names the call, and its arguments.
+#![tactic(auto)]
+
 mod imports;
 
 use answer_writing::lines::Step;

@@ -1,6 +1,8 @@
 // `simplify`, `display` and every question, on types that are deep or have a node at very many places, and on document 01's pair of sets.
 // It prints
 // a line a call. What it must print was made by the Rust (compare/reference/src/bin/walked.rs).
+#![tactic(auto)]
+
 mod lines;
 
 use deep_types::{Step, put_chain, put_pair};

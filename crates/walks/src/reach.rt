@@ -24,7 +24,7 @@ pub fn reachable(words: &[u32], starts: &[u32], c: Counters, root: usize) -> [u6
 }
 
 // How many there are, or the number of a refusal.
-#[derive(Drop)]
+#[derive(Clone, Copy)]
 pub enum Counted {
     Nodes(u32),
     Refused(u32),

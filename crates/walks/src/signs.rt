@@ -110,7 +110,7 @@ fn stands(n: usize, sign: bool, positive: &[u64; 64], negative: &[u64; 64]) -> b
 }
 
 // The nodes with a positive place, and those with a negative one, a bit for each.
-#[derive(Drop)]
+#[derive(Clone, Copy)]
 pub struct Signs {
     pub positive: [u64; 64],
     pub negative: [u64; 64],

@@ -16,7 +16,7 @@ const ZERO: u32 = 0x0001_0000;
 pub(crate) const CHILDREN: u32 = 0x1000;
 
 // The head of a node.
-#[derive(Drop)]
+#[derive(Clone, Copy)]
 pub struct Head {
     pub word: u32,
 }

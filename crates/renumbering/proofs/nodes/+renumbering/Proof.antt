@@ -20,13 +20,13 @@ use borrow.Fn.Kinds.{In}
 use borrow.Fn.PlainCycle.{Measures, is, falls, and}
 use Rattle.renumbering.proofs.nodes.renumber_each.Reads as renumber-each
 use Rattle.renumbering.proofs.nodes.renumber_each.Kinds as renumber-each-kinds
-use Rattle.renumbering.proofs.nodes.+renumber_each_renumber_node_renumber_uncached.Lts-renumber_each as renumber-each-lts
+use Rattle.renumbering.proofs.nodes.+renumbering.Lts-renumber_each as renumber-each-lts
 use Rattle.renumbering.proofs.nodes.renumber_node.Reads as renumber-node
 use Rattle.renumbering.proofs.nodes.renumber_node.Kinds as renumber-node-kinds
-use Rattle.renumbering.proofs.nodes.+renumber_each_renumber_node_renumber_uncached.Lts-renumber_node as renumber-node-lts
+use Rattle.renumbering.proofs.nodes.+renumbering.Lts-renumber_node as renumber-node-lts
 use Rattle.renumbering.proofs.nodes.renumber_uncached.Reads as renumber-uncached
 use Rattle.renumbering.proofs.nodes.renumber_uncached.Kinds as renumber-uncached-kinds
-use Rattle.renumbering.proofs.nodes.+renumber_each_renumber_node_renumber_uncached.Lts-renumber_uncached as renumber-uncached-lts
+use Rattle.renumbering.proofs.nodes.+renumbering.Lts-renumber_uncached as renumber-uncached-lts
 use Rattle.rebuilding.proofs.children.all_children.Reads as all-children-reads
 use Rattle.rebuilding.proofs.node.rebuild.Reads as rebuild-reads
 use Rattle.recursion.proofs.cached.Reads as cached-reads
@@ -35,8 +35,8 @@ use Rattle.recursion.proofs.remember.Reads as remember-reads
 use Rattle.renumbering.proofs.vars.renumber_var.Reads as renumber-var-reads
 use Rattle.node_reading.proofs.nodes.kind_at.Reads as kind-at-reads
 use Rattle.words.proofs.arc_ty.wide.Reads as wide-reads
-use Rattle.renumbering.proofs.nodes.+renumber_each_renumber_node_renumber_uncached.{statement}
-use Rattle.renumbering.proofs.nodes.+renumber_each_renumber_node_renumber_uncached.Tie.{close}
+use Rattle.renumbering.proofs.nodes.+renumbering.{statement}
+use Rattle.renumbering.proofs.nodes.+renumbering.Tie.{close}
 use Rattle.node_store.proofs.added.Interned.refusal.Reads as added-Interned-refusal-reads
 use Rattle.recursion.proofs.Run.refusal.Reads as Run-refusal-reads
 

@@ -24,19 +24,19 @@ use borrow.Fn.Kinds.{In}
 use borrow.Fn.PlainCycle.{Measures, is, falls, and}
 use Rattle.set_ops_pass.proofs.flatten_set_op_cached.Reads as flatten-set-op-cached
 use Rattle.set_ops_pass.proofs.flatten_set_op_cached.Kinds as flatten-set-op-cached-kinds
-use Rattle.set_ops_pass.proofs.+flatten_set_op_cached_normalize_children_normalize_each_normalize_set_ops_cached_normalize_set_ops_uncached.Lts-flatten_set_op_cached as flatten-set-op-cached-lts
+use Rattle.set_ops_pass.proofs.+normalizing.Lts-flatten_set_op_cached as flatten-set-op-cached-lts
 use Rattle.set_ops_pass.proofs.normalize_children.Reads as normalize-children
 use Rattle.set_ops_pass.proofs.normalize_children.Kinds as normalize-children-kinds
-use Rattle.set_ops_pass.proofs.+flatten_set_op_cached_normalize_children_normalize_each_normalize_set_ops_cached_normalize_set_ops_uncached.Lts-normalize_children as normalize-children-lts
+use Rattle.set_ops_pass.proofs.+normalizing.Lts-normalize_children as normalize-children-lts
 use Rattle.set_ops_pass.proofs.normalize_each.Reads as normalize-each
 use Rattle.set_ops_pass.proofs.normalize_each.Kinds as normalize-each-kinds
-use Rattle.set_ops_pass.proofs.+flatten_set_op_cached_normalize_children_normalize_each_normalize_set_ops_cached_normalize_set_ops_uncached.Lts-normalize_each as normalize-each-lts
+use Rattle.set_ops_pass.proofs.+normalizing.Lts-normalize_each as normalize-each-lts
 use Rattle.set_ops_pass.proofs.normalize_set_ops_cached.Reads as normalize-set-ops-cached
 use Rattle.set_ops_pass.proofs.normalize_set_ops_cached.Kinds as normalize-set-ops-cached-kinds
-use Rattle.set_ops_pass.proofs.+flatten_set_op_cached_normalize_children_normalize_each_normalize_set_ops_cached_normalize_set_ops_uncached.Lts-normalize_set_ops_cached as normalize-set-ops-cached-lts
+use Rattle.set_ops_pass.proofs.+normalizing.Lts-normalize_set_ops_cached as normalize-set-ops-cached-lts
 use Rattle.set_ops_pass.proofs.normalize_set_ops_uncached.Reads as normalize-set-ops-uncached
 use Rattle.set_ops_pass.proofs.normalize_set_ops_uncached.Kinds as normalize-set-ops-uncached-kinds
-use Rattle.set_ops_pass.proofs.+flatten_set_op_cached_normalize_children_normalize_each_normalize_set_ops_cached_normalize_set_ops_uncached.Lts-normalize_set_ops_uncached as normalize-set-ops-uncached-lts
+use Rattle.set_ops_pass.proofs.+normalizing.Lts-normalize_set_ops_uncached as normalize-set-ops-uncached-lts
 use Rattle.rebuilding.proofs.children.all_children.Reads as all-children-reads
 use Rattle.rebuilding.proofs.node.rebuild.Reads as rebuild-reads
 use Rattle.recursion.proofs.cached.Reads as cached-reads
@@ -48,10 +48,10 @@ use Rattle.set_ops_pass.proofs.member_at.Reads as member-at-reads
 use Rattle.set_ops_pass.proofs.member_count.Reads as member-count-reads
 use Rattle.node_reading.proofs.nodes.kind_at.Reads as kind-at-reads
 use Rattle.words.proofs.arc_ty.wide.Reads as wide-reads
-use Rattle.set_ops_pass.proofs.+flatten_set_op_cached_normalize_children_normalize_each_normalize_set_ops_cached_normalize_set_ops_uncached.{
+use Rattle.set_ops_pass.proofs.+normalizing.{
   statement,
 }
-use Rattle.set_ops_pass.proofs.+flatten_set_op_cached_normalize_children_normalize_each_normalize_set_ops_cached_normalize_set_ops_uncached.Tie.{
+use Rattle.set_ops_pass.proofs.+normalizing.Tie.{
   close,
 }
 use Rattle.node_store.proofs.added.Interned.refusal.Reads as added-Interned-refusal-reads

@@ -18,16 +18,16 @@ use borrow.Fn.Kinds.{In}
 use borrow.Fn.PlainCycle.{Measures, is, falls, and}
 use Rattle.pass.proofs.apply.apply_each.Reads as apply-each
 use Rattle.pass.proofs.apply.apply_each.Kinds as apply-each-kinds
-use Rattle.pass.proofs.apply.+apply_each_apply_first_apply_simplification_apply_simplification_uncached.Lts-apply_each as apply-each-lts
+use Rattle.pass.proofs.apply.+applying.Lts-apply_each as apply-each-lts
 use Rattle.pass.proofs.apply.apply_first.Reads as apply-first
 use Rattle.pass.proofs.apply.apply_first.Kinds as apply-first-kinds
-use Rattle.pass.proofs.apply.+apply_each_apply_first_apply_simplification_apply_simplification_uncached.Lts-apply_first as apply-first-lts
+use Rattle.pass.proofs.apply.+applying.Lts-apply_first as apply-first-lts
 use Rattle.pass.proofs.apply.apply_simplification.Reads as apply-simplification
 use Rattle.pass.proofs.apply.apply_simplification.Kinds as apply-simplification-kinds
-use Rattle.pass.proofs.apply.+apply_each_apply_first_apply_simplification_apply_simplification_uncached.Lts-apply_simplification as apply-simplification-lts
+use Rattle.pass.proofs.apply.+applying.Lts-apply_simplification as apply-simplification-lts
 use Rattle.pass.proofs.apply.apply_simplification_uncached.Reads as apply-simplification-uncached
 use Rattle.pass.proofs.apply.apply_simplification_uncached.Kinds as apply-simplification-uncached-kinds
-use Rattle.pass.proofs.apply.+apply_each_apply_first_apply_simplification_apply_simplification_uncached.Lts-apply_simplification_uncached as apply-simplification-uncached-lts
+use Rattle.pass.proofs.apply.+applying.Lts-apply_simplification_uncached as apply-simplification-uncached-lts
 use Rattle.pass.proofs.apply.first_member.Reads as first-member-reads
 use Rattle.recursion.proofs.item_at.Reads as item-at-reads
 use Rattle.pass.proofs.cache.cached.Reads as cached-reads
@@ -37,10 +37,10 @@ use Rattle.rebuilding.proofs.node.rebuild.Reads as rebuild-reads
 use Rattle.rebuilding.proofs.children.remaining.Reads as remaining-reads
 use Rattle.node_reading.proofs.nodes.kind_at.Reads as kind-at-reads
 use Rattle.words.proofs.arc_ty.wide.Reads as wide-reads
-use Rattle.pass.proofs.apply.+apply_each_apply_first_apply_simplification_apply_simplification_uncached.{
+use Rattle.pass.proofs.apply.+applying.{
   statement,
 }
-use Rattle.pass.proofs.apply.+apply_each_apply_first_apply_simplification_apply_simplification_uncached.Tie.{
+use Rattle.pass.proofs.apply.+applying.Tie.{
   close,
 }
 use Rattle.node_store.proofs.added.Interned.refusal.Reads as added-Interned-refusal-reads

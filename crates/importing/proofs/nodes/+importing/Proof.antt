@@ -21,13 +21,13 @@ use borrow.Fn.Kinds.{In}
 use borrow.Fn.PlainCycle.{Measures, is, falls, and}
 use Rattle.importing.proofs.nodes.import_each.Reads as import-each
 use Rattle.importing.proofs.nodes.import_each.Kinds as import-each-kinds
-use Rattle.importing.proofs.nodes.+import_each_import_node_import_uncached.Lts-import_each as import-each-lts
+use Rattle.importing.proofs.nodes.+importing.Lts-import_each as import-each-lts
 use Rattle.importing.proofs.nodes.import_node.Reads as import_node
 use Rattle.importing.proofs.nodes.import_node.Kinds as import-node-kinds
-use Rattle.importing.proofs.nodes.+import_each_import_node_import_uncached.Lts-import_node as import-node-lts
+use Rattle.importing.proofs.nodes.+importing.Lts-import_node as import-node-lts
 use Rattle.importing.proofs.nodes.import_uncached.Reads as import-uncached
 use Rattle.importing.proofs.nodes.import_uncached.Kinds as import-uncached-kinds
-use Rattle.importing.proofs.nodes.+import_each_import_node_import_uncached.Lts-import_uncached as import-uncached-lts
+use Rattle.importing.proofs.nodes.+importing.Lts-import_uncached as import-uncached-lts
 use Rattle.importing.proofs.nodes.intern_imported.Reads as intern-imported-reads
 use Rattle.importing.proofs.nodes.next_near.Reads as next-near-reads
 use Rattle.node_store.proofs.added.Interned.refusal.Reads as added-Interned-refusal-reads
@@ -36,8 +36,8 @@ use Rattle.recursion.proofs.Run.refusal.Reads as Run-refusal-reads
 use Rattle.recursion.proofs.cached.Reads as cached-reads
 use Rattle.recursion.proofs.item_at.Reads as item-at-reads
 use Rattle.recursion.proofs.remember.Reads as remember-reads
-use Rattle.importing.proofs.nodes.+import_each_import_node_import_uncached.{statement}
-use Rattle.importing.proofs.nodes.+import_each_import_node_import_uncached.Tie.{close}
+use Rattle.importing.proofs.nodes.+importing.{statement}
+use Rattle.importing.proofs.nodes.+importing.Tie.{close}
 
 abbrev μ-import-each : Measures 8 import-each-kinds.ps ℕ
 μ-import-each κs a = 3 * a.1.1.1.0

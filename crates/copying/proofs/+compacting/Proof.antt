@@ -18,20 +18,20 @@ use borrow.Fn.Kinds.{In}
 use borrow.Fn.PlainCycle.{Measures, is, falls, and}
 use Rattle.copying.proofs.compact_each.Reads as compact-each
 use Rattle.copying.proofs.compact_each.Kinds as compact-each-kinds
-use Rattle.copying.proofs.+compact_each_compact_inner_compact_inner_uncached.Lts-compact_each as compact-each-lts
+use Rattle.copying.proofs.+compacting.Lts-compact_each as compact-each-lts
 use Rattle.copying.proofs.compact_inner.Reads as compact-inner
 use Rattle.copying.proofs.compact_inner.Kinds as compact-inner-kinds
-use Rattle.copying.proofs.+compact_each_compact_inner_compact_inner_uncached.Lts-compact_inner as compact-inner-lts
+use Rattle.copying.proofs.+compacting.Lts-compact_inner as compact-inner-lts
 use Rattle.copying.proofs.compact_inner_uncached.Reads as compact-inner-uncached
 use Rattle.copying.proofs.compact_inner_uncached.Kinds as compact-inner-uncached-kinds
-use Rattle.copying.proofs.+compact_each_compact_inner_compact_inner_uncached.Lts-compact_inner_uncached as compact-inner-uncached-lts
+use Rattle.copying.proofs.+compacting.Lts-compact_inner_uncached as compact-inner-uncached-lts
 use Rattle.copying.proofs.intern_copy.Reads as intern-copy-reads
 use Rattle.rebuilding.proofs.children.all_children.Reads as all-children-reads
 use Rattle.recursion.proofs.cached.Reads as cached-reads
 use Rattle.recursion.proofs.item_at.Reads as item-at-reads
 use Rattle.recursion.proofs.remember.Reads as remember-reads
-use Rattle.copying.proofs.+compact_each_compact_inner_compact_inner_uncached.{statement}
-use Rattle.copying.proofs.+compact_each_compact_inner_compact_inner_uncached.Tie.{close}
+use Rattle.copying.proofs.+compacting.{statement}
+use Rattle.copying.proofs.+compacting.Tie.{close}
 use Rattle.node_store.proofs.added.Interned.refusal.Reads as added-Interned-refusal-reads
 use Rattle.recursion.proofs.Run.refusal.Reads as Run-refusal-reads
 
