@@ -1,5 +1,4 @@
-// The lines that answer cases, written to standard output: bytes and numbers (`output`), and what many answers have (`lines`).
-// Each function takes how many bytes the buffer holds, and gives back how many it holds after.
+// The lines that answer cases, put into a writer: bytes and numbers (`output`), and what many answers have (`lines`).
 #![tactic(auto)]
 
 pub mod lines;

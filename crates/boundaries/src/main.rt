@@ -5,49 +5,31 @@
 
 use arena::intern;
 use node_store::added::Interned;
+use std::io;
 use types::Counters;
 use types::arc_ty::Head;
 use types::attrset::field_word;
 
-fn print(n: usize) {
-    io::print_decimal(1, n as u64);
-}
-
-fn said(n: u32) {
-    io::print_decimal(1, n as u64);
-}
-
 // Prints what a call answered.
-fn tell(label: &[u8], r: Interned) {
-    io::write_all(1, label);
+fn tell(rt: &impl Print, label: &str, r: Interned) -> io::Result<()> {
+    print!(rt; "{label}")?;
     match r {
-        Interned::Node(n, d) => {
-            io::write_all(1, b": ");
-            said(n);
-            io::write_all(1, b" ");
-            print(d.nodes);
-            io::write_all(1, b" ");
-            print(d.words);
-            io::write_all(1, b"\n");
-        }
-        Interned::Refused(e) => {
-            io::write_all(1, b": refused ");
-            said(e);
-            io::write_all(1, b"\n");
-        }
+        Interned::Node(n, d) => println!(rt; ": {n} {} {}", d.nodes, d.words),
+        Interned::Refused(e) => println!(rt; ": refused {e}"),
     }
 }
 
 // One call, and what it answered.
 fn try_intern(
-    label: &[u8],
+    rt: &impl Print,
+    label: &str,
     table: &[u8],
     words: &mut [u32],
     starts: &mut [u32],
     c: Counters,
     node: &[u32],
-) {
-    tell(label, intern(table, words, starts, c, node));
+) -> io::Result<()> {
+    tell(rt, label, intern(table, words, starts, c, node))
 }
 
 fn set(words: &mut [u32], at: usize, value: u32) {
@@ -155,46 +137,65 @@ fn put_names(table: &mut [u8], count: usize, length: usize) {
 }
 
 // Number 1: a table of 4,096 names is taken, and one of 4,097 is not; nor is a byte 127, a name of no byte, or a name twice.
-fn tables() {
+fn tables(rt: &impl Print) -> io::Result<()> {
     let mut words = [0u32; 8];
     let mut starts = [0u32; 4];
     let none = Counters { nodes: 0, words: 0 };
     let node = [head(Head::TY_VAR, 1), 7];
     let mut most = [0u8; 12288];
     put_names(&mut most, 4096, 2);
-    try_intern(b"4096 names", &most, &mut words, &mut starts, none, &node);
+    try_intern(
+        rt,
+        "4096 names",
+        &most,
+        &mut words,
+        &mut starts,
+        none,
+        &node,
+    )?;
     let mut over = [0u8; 12291];
     put_names(&mut over, 4097, 2);
     try_intern(
-        b"4097 names",
+        rt,
+        "4097 names",
         &over,
         &mut words,
         &mut starts,
         Counters { nodes: 1, words: 2 },
         &node,
-    );
-    try_intern(b"byte 127", &[1, 127], &mut words, &mut starts, none, &node);
+    )?;
     try_intern(
-        b"byte 126",
+        rt,
+        "byte 127",
+        &[1, 127],
+        &mut words,
+        &mut starts,
+        none,
+        &node,
+    )?;
+    try_intern(
+        rt,
+        "byte 126",
         &[1, 126],
         &mut words,
         &mut starts,
         Counters { nodes: 1, words: 2 },
         &node,
-    );
-    try_intern(b"empty name", &[0], &mut words, &mut starts, none, &node);
+    )?;
+    try_intern(rt, "empty name", &[0], &mut words, &mut starts, none, &node)?;
     try_intern(
-        b"name twice",
+        rt,
+        "name twice",
         &[1, 97, 1, 97],
         &mut words,
         &mut starts,
         none,
         &node,
-    );
+    )
 }
 
 // Number 1 by bytes: 1,008 names of 64 bytes and one of 15 fill a table, and one of 16 is a byte too much.
-fn longest_tables() {
+fn longest_tables(rt: &impl Print) -> io::Result<()> {
     let mut words = [0u32; 8];
     let mut starts = [0u32; 4];
     let none = Counters { nodes: 0, words: 0 };
@@ -202,52 +203,63 @@ fn longest_tables() {
     let mut most = [0u8; 65536];
     put_names(&mut most, 1008, 64);
     put_name(&mut most, 65520, 1008, 15);
-    try_intern(b"65536 bytes", &most, &mut words, &mut starts, none, &node);
+    try_intern(
+        rt,
+        "65536 bytes",
+        &most,
+        &mut words,
+        &mut starts,
+        none,
+        &node,
+    )?;
     let mut over = [0u8; 65537];
     put_names(&mut over, 1008, 64);
     put_name(&mut over, 65520, 1008, 16);
     try_intern(
-        b"65537 bytes",
+        rt,
+        "65537 bytes",
         &over,
         &mut words,
         &mut starts,
         Counters { nodes: 1, words: 2 },
         &node,
-    );
+    )
 }
 
 // Number 2: counters that memory doesn't hold, a word left over, lent words over the limit.
-fn arenas() {
+fn arenas(rt: &impl Print) -> io::Result<()> {
     let mut words = [0u32; 8];
     let mut starts = [0u32; 4];
     let node = [head(Head::TY_VAR, 1), 7];
     put_vars(&mut words, &mut starts, 2);
     try_intern(
-        b"two variables",
+        rt,
+        "two variables",
         &[],
         &mut words,
         &mut starts,
         Counters { nodes: 2, words: 4 },
         &node,
-    );
+    )?;
     try_intern(
-        b"stale counters",
+        rt,
+        "stale counters",
         &[],
         &mut words,
         &mut starts,
         Counters { nodes: 2, words: 4 },
         &node,
-    );
+    )?;
     let mut over = [0u32; 16385];
     let mut most = [0u32; 16384];
     let mut few = [0u32; 1];
     let none = Counters { nodes: 0, words: 0 };
-    try_intern(b"16385 words", &[], &mut over, &mut few, none, &node);
-    try_intern(b"16384 words", &[], &mut most, &mut few, none, &node);
+    try_intern(rt, "16385 words", &[], &mut over, &mut few, none, &node)?;
+    try_intern(rt, "16384 words", &[], &mut most, &mut few, none, &node)
 }
 
 // Numbers 3 and 4, in an arena of two variables.
-fn faults() {
+fn faults(rt: &impl Print) -> io::Result<()> {
     let mut words = [0u32; 80];
     let mut starts = [0u32; 8];
     put_vars(&mut words, &mut starts, 2);
@@ -255,26 +267,55 @@ fn faults() {
     let table = [1, 97, 1, 98];
     let mut over = [0u32; 66];
     over[0] = head(Head::UNION, 65);
-    try_intern(b"65 members", &table, &mut words, &mut starts, two, &over);
+    try_intern(
+        rt,
+        "65 members",
+        &table,
+        &mut words,
+        &mut starts,
+        two,
+        &over,
+    )?;
     let mut most = [0u32; 65];
     most[0] = head(Head::UNION, 64);
-    try_intern(b"64 members", &table, &mut words, &mut starts, two, &most);
+    try_intern(
+        rt,
+        "64 members",
+        &table,
+        &mut words,
+        &mut starts,
+        two,
+        &most,
+    )?;
     let c = Counters {
         nodes: 3,
         words: 69,
     };
-    try_intern(b"no word", &table, &mut words, &mut starts, c, &[]);
+    try_intern(rt, "no word", &table, &mut words, &mut starts, c, &[])?;
     let code = [head(Head::PRIMITIVE, 1), 8];
-    try_intern(b"code 8", &table, &mut words, &mut starts, c, &code);
+    try_intern(rt, "code 8", &table, &mut words, &mut starts, c, &code)?;
     let own = [head(Head::LIST, 1), 3];
-    try_intern(b"child 3 of 3", &table, &mut words, &mut starts, c, &own);
+    try_intern(rt, "child 3 of 3", &table, &mut words, &mut starts, c, &own)?;
     let lower = [head(Head::LIST, 1), 2];
-    try_intern(b"child 2 of 3", &table, &mut words, &mut starts, c, &lower);
-    name_faults(&table, &mut words, &mut starts);
+    try_intern(
+        rt,
+        "child 2 of 3",
+        &table,
+        &mut words,
+        &mut starts,
+        c,
+        &lower,
+    )?;
+    name_faults(rt, &table, &mut words, &mut starts)
 }
 
 // Number 5, in the arena that `faults` leaves.
-fn name_faults(table: &[u8], words: &mut [u32], starts: &mut [u32]) {
+fn name_faults(
+    rt: &impl Print,
+    table: &[u8],
+    words: &mut [u32],
+    starts: &mut [u32],
+) -> io::Result<()> {
     let a = field_word(false, 0, 0);
     let b = field_word(true, 1, 1);
     let d = Counters {
@@ -282,33 +323,36 @@ fn name_faults(table: &[u8], words: &mut [u32], starts: &mut [u32]) {
         words: 71,
     };
     try_intern(
-        b"names fall",
+        rt,
+        "names fall",
         table,
         words,
         starts,
         d,
         &[head(Head::ATTR_SET, 2), b, a],
-    );
+    )?;
     try_intern(
-        b"names repeat",
+        rt,
+        "names repeat",
         table,
         words,
         starts,
         d,
         &[head(Head::ATTR_SET, 2), b, b],
-    );
+    )?;
     try_intern(
-        b"names rise",
+        rt,
+        "names rise",
         table,
         words,
         starts,
         d,
         &[head(Head::ATTR_SET, 2), a, b],
-    );
+    )
 }
 
 // Name 4,095 is in a table of 4,096 names, and not in one of 4,095.
-fn last_name() {
+fn last_name(rt: &impl Print) -> io::Result<()> {
     let mut words = [0u32; 8];
     let mut starts = [0u32; 4];
     put_vars(&mut words, &mut starts, 1);
@@ -319,25 +363,27 @@ fn last_name() {
     let one = Counters { nodes: 1, words: 2 };
     let node = [head(Head::NAMED, 1), field_word(false, 4095, 0)];
     try_intern(
-        b"name 4095 of 4095",
+        rt,
+        "name 4095 of 4095",
         &fewer,
         &mut words,
         &mut starts,
         one,
         &node,
-    );
+    )?;
     try_intern(
-        b"name 4095 of 4096",
+        rt,
+        "name 4095 of 4096",
         &most,
         &mut words,
         &mut starts,
         one,
         &node,
-    );
+    )
 }
 
 // Number 7 by starts: node number 4095 is the last; one more is refused, but a stored one is still found.
-fn most_nodes() {
+fn most_nodes(rt: &impl Print) -> io::Result<()> {
     let mut words = [0u32; 16384];
     let mut starts = [0u32; 4096];
     put_vars(&mut words, &mut starts, 4095);
@@ -346,31 +392,41 @@ fn most_nodes() {
         nodes: 4095,
         words: 8190,
     };
-    try_intern(b"node 4096", &[], &mut words, &mut starts, c, &[top, 4095]);
+    try_intern(
+        rt,
+        "node 4096",
+        &[],
+        &mut words,
+        &mut starts,
+        c,
+        &[top, 4095],
+    )?;
     let full = Counters {
         nodes: 4096,
         words: 8192,
     };
     try_intern(
-        b"node 4097",
+        rt,
+        "node 4097",
         &[],
         &mut words,
         &mut starts,
         full,
         &[top, 4096],
-    );
+    )?;
     try_intern(
-        b"node 17 again",
+        rt,
+        "node 17 again",
         &[],
         &mut words,
         &mut starts,
         full,
         &[top, 17],
-    );
+    )
 }
 
 // Number 7 by words: the last union ends with word 16,384; one word more is refused, but a stored node is still found.
-fn most_words() {
+fn most_words(rt: &impl Print) -> io::Result<()> {
     let mut words = [0u32; 16384];
     let mut starts = [0u32; 4096];
     put_unions(&mut words, &mut starts, 251);
@@ -380,35 +436,37 @@ fn most_words() {
         nodes: 253,
         words: 16319,
     };
-    try_intern(b"word 16384", &[], &mut words, &mut starts, c, &last);
+    try_intern(rt, "word 16384", &[], &mut words, &mut starts, c, &last)?;
     let full = Counters {
         nodes: 254,
         words: 16384,
     };
     try_intern(
-        b"word 16385",
+        rt,
+        "word 16385",
         &[],
         &mut words,
         &mut starts,
         full,
         &[head(Head::TOP, 0)],
-    );
+    )?;
     try_intern(
-        b"last union again",
+        rt,
+        "last union again",
         &[],
         &mut words,
         &mut starts,
         full,
         &last,
-    );
+    )
 }
 
-fn main() {
-    tables();
-    longest_tables();
-    arenas();
-    faults();
-    last_name();
-    most_nodes();
-    most_words();
+fn main(rt: HostRuntime) -> io::Result<()> {
+    tables(&rt)?;
+    longest_tables(&rt)?;
+    arenas(&rt)?;
+    faults(&rt)?;
+    last_name(&rt)?;
+    most_nodes(&rt)?;
+    most_words(&rt)
 }

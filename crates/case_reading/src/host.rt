@@ -4,7 +4,7 @@ use types::Counters;
 use types::arc_ty::wide;
 
 // As many words as a case can lend.
-pub type Words = [u32; 65535];
+pub const WORDS: usize = 65535;
 
 // All words become zero.
 fn clear(words: &mut [u32]) {
@@ -55,7 +55,7 @@ pub struct LentMemory {
 }
 
 // Lent memory: counters, words and starts.
-pub fn lend_memory(s: &[u8], at: usize, words: &mut Words, starts: &mut Words) -> LentMemory {
+pub fn lend_memory(s: &[u8], at: usize, words: &mut [u32], starts: &mut [u32]) -> LentMemory {
     let used = add(at, 4);
     let counters = Counters {
         nodes: wide(word(s, at)),
@@ -82,7 +82,7 @@ pub struct Host {
 }
 
 // A host, behind the number of the case.
-pub fn lend_host(s: &[u8], words: &mut Words, starts: &mut Words) -> Host {
+pub fn lend_host(s: &[u8], words: &mut [u32], starts: &mut [u32]) -> Host {
     let table = add(5, wide(word(s, 1)));
     let lent = lend_memory(s, table, words, starts);
     let counters = lent.counters;

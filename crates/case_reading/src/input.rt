@@ -1,8 +1,11 @@
-// Standard input in large pieces.
+// A reader's bytes in large pieces.
 use crate::numbers::{add, part};
+use program_io::read_full;
+use std::io;
+use std::io::Read;
 
-// The buffer.
-pub type Buffer = [u8; 1572864];
+// How many bytes the buffer has.
+pub const BUFFER: usize = 1572864;
 
 // Which bytes of the buffer are read and not yet used, and whether the input has ended.
 #[derive(Clone, Copy)]
@@ -22,7 +25,7 @@ pub fn start() -> Input {
 }
 
 // The bytes that are read and not yet used.
-pub fn unused<'a>(buf: &'a Buffer, input: Input) -> &'a [u8] {
+pub fn unused<'a>(buf: &'a [u8], input: Input) -> &'a [u8] {
     part(buf, input.at, input.end)
 }
 
@@ -53,36 +56,36 @@ fn shift(buf: &mut [u8], from: usize, end: usize) {
 }
 
 // Reads on behind the bytes that are kept at the front.
-fn read_behind(buf: &mut [u8], kept: usize) -> Input {
+fn read_behind<R: Read>(reader: &mut R, buf: &mut [u8], kept: usize) -> io::Result<Input> {
     if kept > buf.len() {
-        return Input {
+        return Ok(Input {
             at: 0,
             end: 0,
             ended: true,
-        };
+        });
     }
-    let end = add(kept, io::read_full(0, &mut buf[kept..]));
-    Input {
+    let end = add(kept, read_full(reader, &mut buf[kept..])?);
+    Ok(Input {
         at: 0,
         end,
         ended: end < buf.len(),
-    }
+    })
 }
 
 // A whole case in the buffer, or all that is left of the input.
-pub fn refill(buf: &mut Buffer, input: Input) -> Input {
+pub fn refill<R: Read>(reader: &mut R, buf: &mut [u8], input: Input) -> io::Result<Input> {
     let at = input.at;
     let end = input.end;
     if input.ended {
-        return input;
+        return Ok(input);
     }
     if end < at {
-        return input;
+        return Ok(input);
     }
     let kept = end - at;
     if kept >= LONGEST {
-        return input;
+        return Ok(input);
     }
     shift(buf, at, end);
-    read_behind(buf, kept)
+    read_behind(reader, buf, kept)
 }

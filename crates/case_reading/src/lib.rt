@@ -1,4 +1,4 @@
-// The cases that programs answer, read from standard input (`input`), and what they are made of: numbers (`numbers`), and the
+// The cases that programs answer, read from a reader (`input`), and what they are made of: numbers (`numbers`), and the
 // memory that a host lends (`host`).
 #![tactic(auto)]
 

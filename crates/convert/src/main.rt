@@ -1,23 +1,24 @@
 // Reads one old sheet from standard input and writes the new one, or the line that it is refused. A byte past the longest sheet
-// is enough to refuse it, so no more are read; a read that fails ends the sheet as the end of the input does.
+// is enough to refuse it, so no more are read. A read or a write that fails ends the program with its error.
 #![tactic(auto)]
 
+use program_io::read_full;
 use sheet_converting::{Converted, convert_sheet};
+use std::io;
+use std::io::Write;
 
-fn answer(sheet: &mut [u8]) {
+// What is written for a sheet: the new one in its place, or the line of a refusal.
+fn answer(sheet: &mut [u8]) -> &[u8] {
     let converted = convert_sheet(sheet);
     match converted {
-        Converted::Sheet => {
-            io::write_all(1, sheet);
-        }
-        Converted::Refused(_) => {
-            io::write_all(1, b"refused 11\n");
-        }
+        Converted::Sheet => sheet,
+        Converted::Refused(_) => b"refused 11\n",
     }
 }
 
-fn main() {
+fn main(rt: HostRuntime) -> io::Result<()> {
     let mut sheet = [0u8; 65537];
-    let got = io::read_full(0, &mut sheet);
-    answer(&mut sheet[..got]);
+    let got = read_full(&mut rt.reader(), &mut sheet)?;
+    let answered = answer(&mut sheet[..got]);
+    io::writer(&rt).write_all(answered)
 }

@@ -19,7 +19,7 @@ module _ (words starts : ℕ) where
   -- an old number is copied alike
   copy_kept : (s u : Arena) → Ext s u → (n : ℕ) → n < length s → copy words starts u n ≡ copy words starts s n
   unfolding copy
-  copy_kept s u e n l = ext_rec _ _ s u e n l
+  copy_kept s u e n l = ext_rec (λ s x f. rebuild words starts (tag x) (children x) f) (λ a. refuse 6) s u e n l
 
   pub copy_at : (table : ℕ) (u : Arena) → sound table u ≡ true → (n : ℕ) → n < length u → (a : Arena) → copy words starts u n a ≡ rebuild words starts (tag (at u n)) (children (at u n)) (copy words starts u) a
   unfolding copy

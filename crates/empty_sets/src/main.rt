@@ -3,6 +3,7 @@
 
 use display::{Displayed, display};
 use names::compare;
+use std::io;
 use types::arc_ty::Head;
 use types::{Counters, Ordering};
 
@@ -32,24 +33,24 @@ fn shows(open: bool, expected: &[u8]) -> bool {
 }
 
 // A line: the set, the text that it is compared with, and what comes of it.
-fn tell(open: bool, expected: &[u8]) {
+fn tell(rt: &impl Print, open: bool, expected: &str) -> io::Result<()> {
     if open {
-        io::write_all(1, b"open, ");
+        print!(rt; "open, ")?;
     } else {
-        io::write_all(1, b"closed, ");
+        print!(rt; "closed, ")?;
     }
-    io::write_all(1, expected);
-    if shows(open, expected) {
-        io::write_all(1, b": the same\n");
+    print!(rt; "{expected}")?;
+    if shows(open, expected.as_bytes()) {
+        println!(rt; ": the same")
     } else {
-        io::write_all(1, b": another text\n");
+        println!(rt; ": another text")
     }
 }
 
-fn main() {
-    tell(false, b"{  }");
-    tell(true, b"{ ... }");
-    tell(false, b"{ ... }");
-    tell(true, b"{  }");
-    tell(false, b"{ }");
+fn main(rt: HostRuntime) -> io::Result<()> {
+    tell(&rt, false, "{  }")?;
+    tell(&rt, true, "{ ... }")?;
+    tell(&rt, false, "{ ... }")?;
+    tell(&rt, true, "{  }")?;
+    tell(&rt, false, "{ }")
 }

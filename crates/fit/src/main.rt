@@ -1,6 +1,6 @@
 // Reads a length, a sheet of that length and a fix from standard input, and writes whether the fix fits the sheet's type.
-// specs/Fit.antt says what the line is. A byte past the longest input is enough to refuse it, so no more are read; a read that
-// fails ends the input as its end does.
+// specs/Fit.antt says what the line is. A byte past the longest input is enough to refuse it, so no more are read. A read or a
+// write that fails ends the program with its error.
 #![tactic(auto)]
 
 ghost use Rattle.std.specs.Prelude.{◌≡◌};
@@ -10,11 +10,14 @@ ghost use Rattle.fit.specs.Inner.{SheetIn, AnswersFix, WritesAnswer};
 
 use appending::append;
 use fits::fits;
+use program_io::read_full;
 use questions::vars::Asked;
 use sheet_format::write_refusal;
 use sheet_reading::bytes::word;
 use sheet_reading::nodes::copy_words;
 use sheet_reading::{Reading, read_sheet};
+use std::io;
+use std::io::Write;
 use types::Counters;
 use types::arc_ty::wide;
 use words::Layout;
@@ -94,10 +97,10 @@ fn fit_line(input: &[u8], line: &mut [u8; 32]) -> usize
     write_answer(line, answer(input))
 }
 
-fn main() {
-    let mut input = [0u8; 589829];
+fn main(rt: HostRuntime) -> io::Result<()> {
+    let mut input = vec![in rt.alloc(); 0u8; 589829]?;
     let mut line = [0u8; 32];
-    let got = io::read_full(0, &mut input);
+    let got = read_full(&mut rt.reader(), &mut input)?;
     let count = fit_line(&input[..got], &mut line);
-    io::write_all(1, &line[..count]);
+    io::writer(&rt).write_all(&line[..count])
 }

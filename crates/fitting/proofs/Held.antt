@@ -199,7 +199,7 @@ module _ {ws ps us : List ℕ} {width k : ℕ} (N : NodeIn ws ps width) (U : Val
 
   -- neither a primitive nor a list
   is_set : (k ≡ 2 → ⊥) → (k ≡ 4 → ⊥) → head_kind (get_or ws 0 0) ≡ 6
-  is_set f g = sym H.is ∙ eqb-true k 6 (sym (λ i. ne_eqb k 2 f i || (ne_eqb k 4 g i || eqb k 6)) ∙ H.one_of_lem)
+  is_set f g = sym H.is ∙ eqb-true k 6 (sym (λ i. ne_eqb k 2 f i || (ne_eqb k 4 g i || eqb k 6)) ∙ H.one_of)
 
   pub value_there : 1 ≤ length us
   value_there = value_some U
@@ -218,7 +218,7 @@ module _ {ws ps us : List ℕ} {width k : ℕ} (N : NodeIn ws ps width) (U : Val
 
     pub set_refuses : (k ≡ 2 → ⊥) → (k ≡ 4 → ⊥) → (j ≡ 7 → ⊥) → Takes ws us ps width false
     unfolding node_takes tag_of_in children_of
-    set_refuses p s g = takes_read kinds.attr_set (is_set p s) (λ f v e. no_set _ _ _ _ (value_at f v) (λ x. g (sym (same_kind f v e) ∙ x)))
+    set_refuses p s g = takes_read kinds.attr_set (is_set p s) (λ f v e. no_set (map field_of (take (length (drop 1 ws) - bit (head_dynamic (get_or ws 0 0))) (drop 1 ws))) (head_dynamic (get_or ws 0 0)) (head_open (get_or ws 0 0)) (map (pair ps width) (map child (drop 1 ws))) (value_at f v) (λ x. g (sym (same_kind f v e) ∙ x)))
 
     -- vs is the body of the value
     module _ {vs : List ℕ} (l : vs ≡ drop 1 us) where

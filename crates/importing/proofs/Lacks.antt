@@ -43,6 +43,7 @@ module _ (f : ℕ → Option ℕ) where
 
   pub lacking_one : {k : ℕ} {ks : List ℕ} → Mem k ks → f k ≡ none → lacks_one f ks ≡ true
   unfolding lacks_one
+  lacking_one {k = k} {ks = []} x5 e = elim x5 [ ]
   lacking_one {ks = j ∷ ks} (head p) e = or_left (absent (f j)) (lacks_one f ks) (ap (λ (i : ℕ). absent (f i)) (sym p) ∙ ap absent e)
   lacking_one {ks = j ∷ ks} (tail m) e = or_right (absent (f j)) (lacks_one f ks) (lacking_one m e)
 

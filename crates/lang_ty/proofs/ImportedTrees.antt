@@ -229,5 +229,5 @@ module _ (t : List ℕ) (ns : List Name) (p : names_of t ≡ some ns) (tt : List
           let w = well_again (length ms) (length b) few_nodes n (renamed number (tag (at u n))) (children (at u n)) (children (at b k)) (renamed_so n l o) count low in
           let F = found_alike k m (renamed number (tag (at u n))) w (label_renamed (tag (at u n)) o ∙ v.0) in (
             lacks_at number (length ns) u g n l ∙ ap₂ ◌||◌ o A.0,
-            import_at number words starts (length ns) u g n l o b ∙ bind_ok (each (import_node number words starts u) (children (at u n)) b) (children (at b k), b) _ A.1 ∙ intern_stored words starts _ b k F,
+            import_at number words starts (length ns) u g n l o b ∙ bind_ok (each (import_node number words starts u) (children (at u n)) b) (children (at b k), b) (λ r. intern words starts (node (renamed number (tag (at u n))) r.0) r.1) A.1 ∙ intern_stored words starts (node (renamed number (tag (at u n))) (children (at b k))) b k F,
           )

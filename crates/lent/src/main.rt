@@ -5,6 +5,7 @@
 use arena::intern;
 use lent_counters::{Stored, intern_lent, intern_lent_pair};
 use node_store::added::Interned;
+use std::io;
 use types::Counters;
 use types::arc_ty::Head;
 use types::attrset::field_word;
@@ -62,98 +63,104 @@ fn head(kind: u32, count: usize) -> u32 {
     0
 }
 
-fn print(n: usize) {
-    io::print_decimal(1, n as u64);
-}
-
-fn said(n: u32) {
-    io::print_decimal(1, n as u64);
-}
-
 // Prints a line, and hands the counters on.
-fn tell(label: &[u8], left: Left) -> Counters {
+fn tell(rt: &impl Print, label: &str, left: Left) -> io::Result<Counters> {
     let stored = left.stored;
     let counters = left.counters;
-    io::write_all(1, label);
+    print!(rt; "{label}")?;
     match stored {
-        Stored::Node(n) => {
-            io::write_all(1, b": ");
-            said(n);
-        }
-        Stored::Refused(e) => {
-            io::write_all(1, b": refused ");
-            said(e);
-        }
+        Stored::Node(n) => print!(rt; ": {n}")?,
+        Stored::Refused(e) => print!(rt; ": refused {e}")?,
     }
-    io::write_all(1, b", ");
-    print(counters.nodes);
-    io::write_all(1, b" ");
-    print(counters.words);
-    io::write_all(1, b"\n");
-    counters
+    println!(rt; ", {} {}", counters.nodes, counters.words)?;
+    Ok(counters)
 }
 
 // One call in one of the three ways.
 fn once(
+    rt: &impl Print,
     way: u32,
-    label: &[u8],
+    label: &str,
     table: &[u8],
     words: &mut [u32],
     starts: &mut [u32],
     c: Counters,
     node: &[u32],
-) -> Counters {
+) -> io::Result<Counters> {
     if way == 0 {
-        return tell(label, by_value(table, words, starts, c, node));
+        return tell(rt, label, by_value(table, words, starts, c, node));
     }
     if way == 1 {
-        return tell(label, by_struct(table, words, starts, c, node));
+        return tell(rt, label, by_struct(table, words, starts, c, node));
     }
-    tell(label, by_pair(table, words, starts, c, node))
+    tell(rt, label, by_pair(table, words, starts, c, node))
 }
 
 // Nodes that are added, and one that is found.
-fn added(way: u32, table: &[u8], words: &mut [u32; 9], starts: &mut [u32; 4]) -> Counters {
+fn added(
+    rt: &impl Print,
+    way: u32,
+    table: &[u8],
+    words: &mut [u32; 9],
+    starts: &mut [u32; 4],
+) -> io::Result<Counters> {
     let var = [head(Head::TY_VAR, 1), 0];
     let int = [head(Head::PRIMITIVE, 1), 2];
     let union = [head(Head::UNION, 2), 0, 1];
     let none = Counters { nodes: 0, words: 0 };
-    let one = once(way, b"a", table, words, starts, none, &var);
-    let two = once(way, b"int", table, words, starts, one, &int);
-    let same = once(way, b"a again", table, words, starts, two, &var);
-    once(way, b"a | int", table, words, starts, same, &union)
+    let one = once(rt, way, "a", table, words, starts, none, &var)?;
+    let two = once(rt, way, "int", table, words, starts, one, &int)?;
+    let same = once(rt, way, "a again", table, words, starts, two, &var)?;
+    once(rt, way, "a | int", table, words, starts, same, &union)
 }
 
 // For each number that `intern` can answer, a call that is refused by it.
-fn refused(way: u32, table: &[u8], words: &mut [u32; 9], starts: &mut [u32; 4], c: Counters) {
+fn refused(
+    rt: &impl Print,
+    way: u32,
+    table: &[u8],
+    words: &mut [u32; 9],
+    starts: &mut [u32; 4],
+    c: Counters,
+) -> io::Result<()> {
     let var = [head(Head::TY_VAR, 1), 0];
     let twice = [1u8, 97, 1, 97];
-    once(way, b"name twice", &twice, words, starts, c, &var);
+    once(rt, way, "name twice", &twice, words, starts, c, &var)?;
     let before = Counters { nodes: 2, words: 4 };
-    once(way, b"stale counters", table, words, starts, before, &var);
-    once(way, b"no word", table, words, starts, c, &[]);
+    once(
+        rt,
+        way,
+        "stale counters",
+        table,
+        words,
+        starts,
+        before,
+        &var,
+    )?;
+    once(rt, way, "no word", table, words, starts, c, &[])?;
     let own = [head(Head::NEG, 1), 3];
-    once(way, b"child 3 of 3", table, words, starts, c, &own);
+    once(rt, way, "child 3 of 3", table, words, starts, c, &own)?;
     let a = field_word(false, 0, 0);
     let set = [head(Head::ATTR_SET, 2), a, a];
-    once(way, b"field twice", table, words, starts, c, &set);
+    once(rt, way, "field twice", table, words, starts, c, &set)?;
     let lambda = [head(Head::LAMBDA, 2), 0, 1];
-    once(way, b"no room", table, words, starts, c, &lambda);
+    once(rt, way, "no room", table, words, starts, c, &lambda)?;
+    Ok(())
 }
 
-fn run(way: u32) {
+fn run(rt: &impl Print, way: u32) -> io::Result<()> {
     let table = [1u8, 97, 1, 98];
     let mut words = [0u32; 9];
     let mut starts = [0u32; 4];
-    let c = added(way, &table, &mut words, &mut starts);
-    refused(way, &table, &mut words, &mut starts, c);
+    let c = added(rt, way, &table, &mut words, &mut starts)?;
+    refused(rt, way, &table, &mut words, &mut starts, c)
 }
 
-fn main() {
-    io::write_all(1, b"by value\n");
-    run(0);
-    io::write_all(1, b"lent as a struct\n");
-    run(1);
-    io::write_all(1, b"lent as two numbers\n");
-    run(2);
+fn main(rt: HostRuntime) -> io::Result<()> {
+    println!(rt; "by value")?;
+    run(&rt, 0)?;
+    println!(rt; "lent as a struct")?;
+    run(&rt, 1)?;
+    println!(rt; "lent as two numbers")?;
+    run(&rt, 2)
 }

@@ -8,8 +8,9 @@ ghost use Rattle.std.specs.Prelude.{◌≤◌};
 use arena::intern;
 use node_store::added::Interned;
 use simplify::{Simplified, simplify};
+use std::io;
 use types::Counters;
-use types::arc_ty::{Head, wide};
+use types::arc_ty::Head;
 
 // The nodes that a root has as members, by number; the root is the next.
 const BOUND: u32 = 65;
@@ -31,31 +32,15 @@ struct Room {
     starts: usize,
 }
 
-fn say(text: &[u8]) {
-    io::write_all(1, text);
-}
-
-fn and(n: usize) {
-    say(b" ");
-    io::print_decimal(1, n as u64);
-}
-
 // Prints what a call answered.
-fn tell(r: Simplified) {
+fn tell(rt: &impl Print, r: Simplified) -> io::Result<()> {
     match r {
         Simplified::Type(root, passes, c) => {
-            say(b": ok");
-            and(wide(root));
-            and(wide(passes));
-            and(c.nodes);
-            and(c.words);
+            print!(rt; ": ok {root} {passes}")?;
+            println!(rt; " {} {}", c.nodes, c.words)
         }
-        Simplified::Refused(number) => {
-            say(b": refused");
-            and(wide(number));
-        }
+        Simplified::Refused(number) => println!(rt; ": refused {number}"),
     }
-    say(b"\n");
 }
 
 fn head(kind: u32, count: usize) -> u32 {
@@ -160,82 +145,86 @@ fn simplify_in(words: &mut [u32], starts: &mut [u32], c: Counters, room: Room) -
 }
 
 // One call on a type, in this room.
-fn try_simplify(kind: u32, room: Room, root: &[u32]) {
+fn try_simplify(rt: &impl Print, kind: u32, room: Room, root: &[u32]) -> io::Result<()> {
     let mut words = [0u32; 512];
     let mut starts = [0u32; 128];
     let c = put_types(&mut words, &mut starts, kind);
     let c = put(&mut words, &mut starts, c, root);
-    tell(simplify_in(&mut words, &mut starts, c, room));
+    tell(rt, simplify_in(&mut words, &mut starts, c, room))
 }
 
-fn label(kind: u32, members: &[u8], room: &[u8]) {
+fn label(rt: &impl Print, kind: u32, members: &str, room: &str) -> io::Result<()> {
     if kind == Head::UNION {
-        say(b"union of ");
+        print!(rt; "union of ")?;
     } else {
-        say(b"intersection of ");
+        print!(rt; "intersection of ")?;
     }
-    say(members);
-    say(room);
+    print!(rt; "{members}{room}")
 }
 
 // The calls on a type: with room for all, for no word, for no start, and for one node of two words.
-fn in_each_room(kind: u32, members: &[u8], root: &[u32]) {
-    label(kind, members, b"");
+fn in_each_room(rt: &impl Print, kind: u32, members: &str, root: &[u32]) -> io::Result<()> {
+    label(rt, kind, members, "")?;
     try_simplify(
+        rt,
         kind,
         Room {
             words: 80,
             starts: 8,
         },
         root,
-    );
-    label(kind, members, b", no word left");
+    )?;
+    label(rt, kind, members, ", no word left")?;
     try_simplify(
+        rt,
         kind,
         Room {
             words: 0,
             starts: 8,
         },
         root,
-    );
-    label(kind, members, b", no start left");
+    )?;
+    label(rt, kind, members, ", no start left")?;
     try_simplify(
+        rt,
         kind,
         Room {
             words: 80,
             starts: 0,
         },
         root,
-    );
-    label(kind, members, b", one node left");
+    )?;
+    label(rt, kind, members, ", one node left")?;
     try_simplify(
+        rt,
         kind,
         Room {
             words: 2,
             starts: 1,
         },
         root,
-    );
+    )
 }
 
-fn limits(kind: u32) {
+fn limits(rt: &impl Print, kind: u32) -> io::Result<()> {
     let two = head(kind, 2);
     let three = head(kind, 3);
     let four = head(kind, 4);
-    in_each_room(kind, b"64", &[two, FIRST, TO_64]);
-    in_each_room(kind, b"64 and repeats", &[three, FIRST, TO_64, FIRST]);
-    in_each_room(kind, b"65", &[two, FIRST, TO_65]);
-    in_each_room(kind, b"65 and the bound", &[three, FIRST, TO_65, BOUND]);
-    in_each_room(kind, b"a new one and 65", &[three, NEW, FIRST, TO_65]);
-    in_each_room(kind, b"65 and a new one", &[three, FIRST, TO_65, NEW]);
+    in_each_room(rt, kind, "64", &[two, FIRST, TO_64])?;
+    in_each_room(rt, kind, "64 and repeats", &[three, FIRST, TO_64, FIRST])?;
+    in_each_room(rt, kind, "65", &[two, FIRST, TO_65])?;
+    in_each_room(rt, kind, "65 and the bound", &[three, FIRST, TO_65, BOUND])?;
+    in_each_room(rt, kind, "a new one and 65", &[three, NEW, FIRST, TO_65])?;
+    in_each_room(rt, kind, "65 and a new one", &[three, FIRST, TO_65, NEW])?;
     in_each_room(
+        rt,
         kind,
-        b"a new one, the bound and 65",
+        "a new one, the bound and 65",
         &[four, NEW, BOUND, FIRST, TO_65],
-    );
+    )
 }
 
-fn main() {
-    limits(Head::UNION);
-    limits(Head::INTERSECTION);
+fn main(rt: HostRuntime) -> io::Result<()> {
+    limits(&rt, Head::UNION)?;
+    limits(&rt, Head::INTERSECTION)
 }

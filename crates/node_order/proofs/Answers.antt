@@ -2,26 +2,22 @@
 use Prim.Native.Nat.{ℕ, ◌<◌, ◌≤◌}
 use mathlib.Core.Path.{◌≡◌, refl, sym, ap, ap₂, ◌∙◌}
 use mathlib.Core.Bool.{Bool, true, false}
-use mathlib.Core.Logic.{⊎_elim}
 use mathlib.Core.List.{[], ◌∷◌}
 use native.Mathlib.Omega.{arith}
-use types.Run.{OneOf}
-use denote.Enum.Declared.{tag_of}
 use Rattle.words.specs.Words.{bit}
 use Rattle.types.specs.Order.{order, ordering_then}
 use Rattle.types.specs.declared.Ordering.{Ordering}
 use Rattle.types.specs.declared.Ordering.TheVariants.{Less, Equal, Greater}
-use Rattle.types.specs.contracts.Ordering.{the_type}
 use Rattle.types.proofs.Orders.{order_less, order_equal, order_greater}
 
 -- what a `let Ordering::Equal = o else` knows of o in its `else`
 abbrev pub Unequal : Ordering → Type 0
-Unequal o = OneOf (0 ∷ 2 ∷ []) (tag_of the_type o)
+Unequal o = o ≡ Equal → ⊥
 
 first : (o p : Ordering) → Unequal o → ordering_then o p ≡ o
 unfolding ordering_then
 first Less p u = refl
-first Equal p u = absurd (⊎_elim (λ e. omega arith) (λ e. omega arith) u)
+first Equal p u = absurd (u refl)
 first Greater p u = refl
 
 module _ {w o : Ordering} (p : Ordering) (e : w ≡ ordering_then o p) where

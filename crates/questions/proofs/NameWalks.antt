@@ -9,7 +9,7 @@ use lib.Dec.{eqb}
 use borrow.Author.Tests.{eqb-true}
 use Rattle.types.specs.Kind as kinds
 use Rattle.types.specs.Kind.{disc}
-use Rattle.types.specs.Node.{named, tag, kind, children}
+use Rattle.types.specs.Node.{named, tag, kind, children, Node}
 use Rattle.types.specs.Arena.{Arena, at}
 use Rattle.types.specs.Memory.{Holds}
 use Rattle.types.specs.declared.Counters.{Counters}
@@ -26,11 +26,11 @@ use Rattle.node_reading.proofs.NodeReads.{first_lower, first_range}
 module _ (table : ℕ) (a : Arena) (n : ℕ) (l : n < length a) where
   unwrap_at : unwrap_named a n ≡ elim (of_kind kinds.named (at a n)) as (λ _. ℕ) [ true ↦ unwrap_named (before a n l).older (get_or (children (at a n)) 0 0) | false ↦ length (before a n l).older ]
   unfolding unwrap_named
-  unwrap_at = rec_at _ _ a n l
+  unwrap_at = rec_at (λ (s : Arena) (x : Node) (f : ℕ → ℕ). elim (of_kind kinds.named x) [ true ↦ f (get_or (children x) 0 0) | false ↦ length s ]) 0 a n l
 
   unwrap_older : (k : ℕ) → k < n → unwrap_named a k ≡ unwrap_named (before a n l).older k
   unfolding unwrap_named
-  unwrap_older k h = let B = before a n l in ext_rec _ _ B.older a (ext_tail B.ext) k (omega (arith, h, B.count))
+  unwrap_older k h = let B = before a n l in ext_rec (λ (s : Arena) (x : Node) (f : ℕ → ℕ). elim (of_kind kinds.named x) [ true ↦ f (get_or (children x) 0 0) | false ↦ length s ]) 0 B.older a (ext_tail B.ext) k (omega (arith, h, B.count))
 
   unwrap_self : of_kind kinds.named (at a n) ≡ false → n ≡ unwrap_named a n
   unwrap_self e = sym (unwrap_at ∙ rw e (before a n l).count)

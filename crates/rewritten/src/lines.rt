@@ -6,79 +6,63 @@ use node_store::added::Interned;
 use questions::vars::Asked;
 use renumber::{normalize_replacing_unknown, normalize_vars};
 use set_ops::normalize_set_ops;
+use std::io;
 use types::Counters;
-use types::arc_ty::wide;
 
-fn say(text: &[u8]) {
-    io::write_all(1, text);
+fn label(rt: &impl Print, shape: &str, call: &str) -> io::Result<()> {
+    print!(rt; "{shape}, {call}: ")
 }
 
-fn label(shape: &[u8], call: &[u8]) {
-    say(shape);
-    say(b", ");
-    say(call);
-    say(b": ");
-}
-
-fn and(n: usize) {
-    say(b" ");
-    io::print_decimal(1, n as u64);
-}
-
-fn refused(n: u32) {
-    say(b"refused");
-    and(wide(n));
+fn refused(rt: &impl Print, n: u32) -> io::Result<()> {
+    println!(rt; "refused {n}")
 }
 
 // A root and the counters.
-fn rooted(root: u32, c: Counters) {
-    say(b"ok");
-    and(wide(root));
-    counters(c);
+fn rooted(rt: &impl Print, root: u32, c: Counters) -> io::Result<()> {
+    println!(rt; "ok {root} {} {}", c.nodes, c.words)
 }
 
-fn counters(c: Counters) {
-    and(c.nodes);
-    and(c.words);
-}
-
-fn interned(r: Interned) {
+fn interned(rt: &impl Print, r: Interned) -> io::Result<()> {
     match r {
-        Interned::Node(root, c) => rooted(root, c),
-        Interned::Refused(n) => refused(n),
+        Interned::Node(root, c) => rooted(rt, root, c),
+        Interned::Refused(n) => refused(rt, n),
     }
-    say(b"\n");
 }
 
 // The call that has this number among the cases, under the names p and q.
 pub fn normalized(
-    shape: &[u8],
+    rt: &impl Print,
+    shape: &str,
     op: u8,
     words: &mut [u32],
     starts: &mut [u32],
     c: Counters,
     root: u32,
-) {
+) -> io::Result<()> {
     let table = [1, b'p', 1, b'q'];
     match op {
         10 => {
-            label(shape, b"normalize_vars");
-            interned(normalize_vars(&table, words, starts, c, root));
+            label(rt, shape, "normalize_vars")?;
+            interned(rt, normalize_vars(&table, words, starts, c, root))
         }
         12 => {
-            label(shape, b"normalize_replacing_unknown");
-            interned(normalize_replacing_unknown(&table, words, starts, c, root));
+            label(rt, shape, "normalize_replacing_unknown")?;
+            interned(
+                rt,
+                normalize_replacing_unknown(&table, words, starts, c, root),
+            )
         }
         _ => {
-            label(shape, b"normalize_set_ops");
-            interned(normalize_set_ops(&table, words, starts, c, root));
+            label(rt, shape, "normalize_set_ops")?;
+            interned(rt, normalize_set_ops(&table, words, starts, c, root))
         }
     }
 }
 
 // The type copied into the other arena, whose counters come back.
 pub fn compacted(
-    shape: &[u8],
+    rt: &impl Print,
+    shape: &str,
     words: &[u32],
     starts: &[u32],
     c: Counters,
@@ -86,9 +70,9 @@ pub fn compacted(
     target_words: &mut [u32],
     target_starts: &mut [u32],
     d: Counters,
-) -> Counters {
+) -> io::Result<Counters> {
     let table = [1, b'p', 1, b'q'];
-    label(shape, b"compact");
+    label(rt, shape, "compact")?;
     let r = compact(
         &table,
         words,
@@ -102,40 +86,39 @@ pub fn compacted(
     let answer = r.answer;
     let after = r.counters;
     match answer {
-        Copied::Root(n) => rooted(n, after),
-        Copied::Refused(n) => refused(n),
+        Copied::Root(n) => rooted(rt, n, after)?,
+        Copied::Refused(n) => refused(rt, n)?,
     }
-    say(b"\n");
-    after
+    Ok(after)
 }
 
-fn yes(so: bool) {
+fn yes(rt: &impl Print, so: bool) -> io::Result<()> {
     if so {
-        say(b"yes");
+        println!(rt; "yes")
     } else {
-        say(b"no");
+        println!(rt; "no")
     }
 }
 
-fn told(shape: &[u8], call: &[u8], r: Asked) {
-    label(shape, call);
+fn told(rt: &impl Print, shape: &str, call: &str, r: Asked) -> io::Result<()> {
+    label(rt, shape, call)?;
     match r {
-        Asked::Is(so) => yes(so),
-        Asked::Refused(n) => refused(n),
+        Asked::Is(so) => yes(rt, so),
+        Asked::Refused(n) => refused(rt, n),
     }
-    say(b"\n");
 }
 
 // The newest node of the one arena beside that of the other, and beside the node before it.
 pub fn compared(
-    shape: &[u8],
+    rt: &impl Print,
+    shape: &str,
     words: &[u32],
     starts: &[u32],
     c: Counters,
     other_words: &[u32],
     other_starts: &[u32],
     d: Counters,
-) {
+) -> io::Result<()> {
     let table = [1, b'p', 1, b'q'];
     let r = structurally_eq(
         &table,
@@ -149,7 +132,7 @@ pub fn compared(
         d,
         4095,
     );
-    told(shape, b"structurally_eq", r);
+    told(rt, shape, "structurally_eq", r)?;
     let r = structurally_eq(
         &table,
         words,
@@ -162,13 +145,14 @@ pub fn compared(
         d,
         4094,
     );
-    told(shape, b"structurally_eq of the node before", r);
+    told(rt, shape, "structurally_eq of the node before", r)
 }
 
 // The type imported into another arena under the same names, whose counters come back.
 pub fn imported(
-    shape: &[u8],
-    call: &[u8],
+    rt: &impl Print,
+    shape: &str,
+    call: &str,
     words: &[u32],
     starts: &[u32],
     c: Counters,
@@ -176,9 +160,9 @@ pub fn imported(
     target_words: &mut [u32],
     target_starts: &mut [u32],
     d: Counters,
-) -> Counters {
+) -> io::Result<Counters> {
     let table = [1, b'p', 1, b'q'];
-    label(shape, call);
+    label(rt, shape, call)?;
     let r = import_from_arena(
         &table,
         words,
@@ -190,9 +174,9 @@ pub fn imported(
         target_starts,
         d,
     );
-    interned(r);
+    interned(rt, r)?;
     let Interned::Node(_, after) = r else {
-        return d;
+        return Ok(d);
     };
-    after
+    Ok(after)
 }

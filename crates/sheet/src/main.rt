@@ -1,13 +1,16 @@
 // Reads a sheet from standard input and writes its line. A byte past the longest sheet is enough to refuse it, so no more are
-// read; a read that fails ends the sheet as the end of the input does.
+// read. A read or a write that fails ends the program with its error.
 #![tactic(auto)]
 
+use program_io::read_full;
 use sheet_format::sheet_line;
+use std::io;
+use std::io::Write;
 
-fn main() {
+fn main(rt: HostRuntime) -> io::Result<()> {
     let mut input = [0u8; 65537];
     let mut line = [0u8; 65544];
-    let got = io::read_full(0, &mut input);
+    let got = read_full(&mut rt.reader(), &mut input)?;
     let count = sheet_line(&input[..got], &mut line);
-    io::write_all(1, &line[..count]);
+    io::writer(&rt).write_all(&line[..count])
 }

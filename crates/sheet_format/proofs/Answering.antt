@@ -37,7 +37,7 @@ module _ {t w s : List ℕ} {c : Counters} {root : ℕ} {text : List ℕ} (S : S
 
     -- the run in the memory of a sheet is that of the definition
     run_is : (sh : Sheet) → root ≡ sh.root → simplify (length w) (length s) root sh.arena ≡ simplify 16384 4096 sh.root sh.arena
-    run_is sh e = λ i. simplify (S.All-words i) (S.all_starts i) (e i) sh.arena
+    run_is sh e = λ i. simplify (S.all_words i) (S.all_starts i) (e i) sh.arena
 
     pub type_stopped : {e : ℕ} → r ≡ simplified.Refused e → AnswersType t w s c root text (answer.Refused e)
     unfolding sheet_type ◌>>=◌

@@ -1,6 +1,6 @@
 -- The names of a table, read from its bytes.
 use Prim.Native.Nat.{ℕ}
-use mathlib.Core.Path.{◌≡◌, refl, sym, ap, ◌∙◌}
+use mathlib.Core.Path.{◌≡◌, refl, sym, ap, ◌∙◌, subst}
 use mathlib.Core.Bool.{true}
 use mathlib.Core.List.{List, [], ◌∷◌, ◌++◌, append_assoc, append-nil}
 use native.Mathlib.Omega.{arith}
@@ -32,7 +32,7 @@ names_after ns (m ∷ ms) rest g r =
     let q = and_true (is_less (name_order (last ns) m)) (rising (m ∷ ms)) r in
     names_next (length ms) ns (length m ∷ (m ++ table ms ++ rest))
     (ap (λ (l : List ℕ). name (last ns) (length m ∷ l)) (append_assoc m (table ms) rest) ∙ name_back (last ns) m (table ms ++ rest) p.0 q.0)
-    ∙ names_after (ns ++ (m ∷ [])) ms rest p.1 (rw (last_more ns m) q.1)
+    ∙ names_after (ns ++ (m ∷ [])) ms rest p.1 (subst (λ (x : Name). rising (x ∷ ms) ≡ true) (sym (last_more ns m)) q.1)
     ∙ ap (λ (l : List Name). ok (l, rest)) (append_snoc ns m ms)
 
 -- the empty text comes before every name

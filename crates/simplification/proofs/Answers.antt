@@ -51,6 +51,7 @@ module _ {A : Type 0} (p : A → Bool) where
 
   pub one_if : (xs : List A) (x : A) → Mem x xs → p x ≡ true → one_of p xs ≡ true
   unfolding one_of
+  one_if [] x x4 q = elim x4 [ ]
   one_if (y ∷ ys) x (head e) q = or_left (p y) (one_of p ys) (ap p (sym e) ∙ q)
   one_if (y ∷ ys) x (tail h) q = or_right (p y) (one_of p ys) (one_if ys x h q)
 

@@ -40,6 +40,7 @@ flat_from f (m ∷ ms) x h = go (append_cases (f m) h) (flat_from f ms x)
 
 pub flat_onto : (f : ℕ → List ℕ) (ms : List ℕ) (m x : ℕ) → Mem m ms → Mem x (f m) → Mem x (flat_map f ms)
 unfolding flat_map
+flat_onto f [] m x x4 h = elim x4 [ ]
 flat_onto f (n ∷ ms) m x (head e) h = append_left (flat_map f ms) (subst (λ (i : ℕ). Mem x (f i)) e h)
 flat_onto f (n ∷ ms) m x (tail i) h = append_right (f n) (flat_onto f ms m x i h)
 

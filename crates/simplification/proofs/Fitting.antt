@@ -49,11 +49,13 @@ module _ (table : ℕ) (v : ℕ) where
       (ap not (unseen table t.arena S.good t.root S.inside v positive O.nowhere_else))
 
   sound_type : {ts : List Taken} → Decreasing table ts → (t : Taken) → Mem t ts → SoundType table t
+  sound_type Rattle.simplification.proofs.Demands.none t x3 = elim x3 [ ]
   sound_type (more S w F) t (head e) = subst (SoundType table) (sym e) S
   sound_type (more S w F) t (tail i) = sound_type F t i
 
   -- no variable would have to be empty for one pass and full for another
   no_clash : {ts : List Taken} → Decreasing table ts → (t u : Taken) → Mem t ts → Mem u ts → Only t v positive → Only u v negative → ⊥
+  no_clash Rattle.simplification.proofs.Demands.none t u x9 _ O N = elim x9 [ ]
   no_clash (more S w F) t u (head d) (head e) O N = N.nowhere_else (subst (λ (t : Taken). Only t v positive) (d ∙ sym e) O).there
   no_clash (more S w F) t u (head d) (tail j) O N = (subst (λ (t : Taken). Only t v positive) d O).nowhere_else (w u j v negative N.there)
   no_clash (more S w F) t u (tail i) (head e) O N = (subst (λ (t : Taken). Only t v negative) e N).nowhere_else (w t i v positive O.there)

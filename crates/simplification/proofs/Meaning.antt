@@ -78,6 +78,7 @@ module _ {j : ℕ} (k : Polarity) (f : ℕ → Set j) (x : Fin j) where
 
   decider_members : (cs : List ℕ) (c : ℕ) → Mem c cs → f c x ≡ deciding k → in_members k (map f cs) x ≡ deciding k
   unfolding in_members
+  decider_members [] c x3 q = elim x3 [ ]
   decider_members (d ∷ cs) c (head e) q = deciding_left k (f d x) (in_members k (map f cs) x) (ap (λ (c : ℕ). f c x) (sym e) ∙ q)
   decider_members (d ∷ cs) c (tail i) q = deciding_right k (f d x) (in_members k (map f cs) x) (decider_members cs c i q)
 

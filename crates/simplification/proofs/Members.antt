@@ -28,6 +28,7 @@ module _ (R : ℕ → Bool) (a : Arena) where
 
   pub remaining_onto : (cs : List ℕ) (x : ℕ) → Mem x cs → is_removable R a x ≡ false → Mem x (remaining R a cs)
   unfolding remaining
+  remaining_onto [] x h e = elim h [ ]
   remaining_onto (c ∷ cs) x h e = go (is_removable R a c) refl h (λ k. remaining_onto cs x k e)
     where
       go : (b : Bool) → is_removable R a c ≡ b → Mem x (c ∷ cs) → (Mem x cs → Mem x (remaining R a cs)) → Mem x (elim b as (λ _. List ℕ) [ true ↦ remaining R a cs | false ↦ c ∷ remaining R a cs ])

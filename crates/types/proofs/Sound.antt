@@ -9,7 +9,7 @@ use lib.ListN.{length}
 use lib.Dec.{eqb}
 use borrow.Author.Tests.{eqb-true, eqb-false}
 use Rattle.types.specs.Same.{same}
-use Rattle.types.specs.Node.{Tag, Node, node, tag, children, node_dec, below, formed, linked, well}
+use Rattle.types.specs.Node.{Tag, Node, node, tag, children, node_dec, below, formed, linked, well, bound, positive}
 use Rattle.types.specs.Arena.{Arena, at, fold, find, absent, sound, Ext, here, more}
 use Rattle.types.specs.Theorems.{ExtFold, FoldAt, ChildLower, FindAt, AtFind}
 use Rattle.types.proofs.Tests.{true_false, and_true, both, same_true, same_if}
@@ -67,12 +67,12 @@ pub fold_at {ℓ} : {Y : Type ℓ} (value : Tag → List Y → Y) → FoldAt val
 unfolding fold
 fold_at value table a h n l =
     let B = before a n l in
-    let old : (c : ℕ) → c < n → fold value B.older c ≡ fold value a c = λ c k. sym (ext_rec _ _ B.older a (ext_tail B.ext) c (omega (arith, B.count))) in
-    rec_at _ _ a n l ∙ ap (value (tag (at a n))) (map_below (fold value B.older) (fold value a) n (children (at a n)) (children_below table a h n l) old)
+    let old : (c : ℕ) → c < n → fold value B.older c ≡ fold value a c = λ c k. sym (ext_rec (λ s x f. value (tag x) (map f (children x))) (value (bound positive) []) B.older a (ext_tail B.ext) c (omega (arith, B.count))) in
+    rec_at (λ s x f. value (tag x) (map f (children x))) (value (bound positive) []) a n l ∙ ap (value (tag (at a n))) (map_below (fold value B.older) (fold value a) n (children (at a n)) (children_below table a h n l) old)
 
 pub ext_fold {ℓ} : {Y : Type ℓ} (value : Tag → List Y → Y) → ExtFold value
 unfolding fold
-ext_fold value = ext_rec _ _
+ext_fold value = ext_rec (λ s x f. value (tag x) (map f (children x))) (value (bound positive) [])
 
 -- ---- what is found is there
 pub find_at : FindAt

@@ -1,28 +1,29 @@
 // The line of each case that changes one arena. A case is taken from the front of `s`, its first byte is its number, and an answer
-// says how many bytes the case has and how many the output holds.
+// says how many bytes the case has.
 ghost use Rattle.std.specs.Prelude.{◌<◌};
 
 use answer_writing::lines::{Step, and, counters, done, interned, memory, ok, refused};
-use answer_writing::output::Output;
 use arena::intern;
-use case_reading::host::{Host, Lent, Words, lend_host};
+use case_reading::host::{Host, Lent, lend_host};
 use case_reading::numbers::{MOST, add, first, load, part, short};
 use node_store::added::Interned;
 use renumber::{normalize_replacing_unknown, normalize_vars};
 use set_ops::normalize_set_ops;
 use simplify::{Simplified, simplify};
+use std::io;
+use std::io::Write;
 use types::Counters;
 use types::arc_ty::wide;
 
 // What `simplify` answered.
-fn simplified(out: &mut Output, held: usize, r: Simplified) -> usize {
+fn simplified<W: Write>(out: &mut W, r: Simplified) -> io::Result<()> {
     match r {
         Simplified::Type(root, passes, c) => {
-            let held = ok(out, held, wide(root));
-            let held = and(out, held, wide(passes));
-            counters(out, held, c)
+            ok(out, wide(root))?;
+            and(out, wide(passes))?;
+            counters(out, c)
         }
-        Simplified::Refused(number) => refused(out, held, number),
+        Simplified::Refused(number) => refused(out, number),
     }
 }
 
@@ -79,39 +80,37 @@ fn stored(
 }
 
 // What the call that has this number answered.
-fn changed(
+fn changed<W: Write>(
     op: usize,
     table: &[u8],
     words: &mut [u32],
     starts: &mut [u32],
     c: Counters,
     given: &[u32],
-    out: &mut Output,
-    held: usize,
-) -> usize {
+    out: &mut W,
+) -> io::Result<()> {
     if op == 4 {
-        return simplified(out, held, simplify(table, words, starts, c, root(given)));
+        return simplified(out, simplify(table, words, starts, c, root(given)));
     }
-    interned(out, held, stored(op, table, words, starts, c, given))
+    interned(out, stored(op, table, words, starts, c, given))
 }
 
 // The same, and the memory after.
-fn change_lent(
+fn change_lent<W: Write>(
     op: usize,
     table: &[u8],
     words: &mut [u32],
     starts: &mut [u32],
     c: Counters,
     given: &[u32],
-    out: &mut Output,
-    held: usize,
-) -> usize {
-    let held = changed(op, table, words, starts, c, given, out, held);
-    memory(out, held, words, starts)
+    out: &mut W,
+) -> io::Result<()> {
+    changed(op, table, words, starts, c, given, out)?;
+    memory(out, words, starts)
 }
 
 // The same for the parts of a case.
-fn change_parts(
+fn change_parts<W: Write>(
     op: usize,
     s: &[u8],
     h: Host,
@@ -119,15 +118,14 @@ fn change_parts(
     starts: &mut [u32],
     given: &[u32],
     end: usize,
-    out: &mut Output,
-    held: usize,
-) -> Step {
+    out: &mut W,
+) -> io::Result<Step> {
     let m = h.words;
     let n = h.starts;
     if s.len() < end || words.len() < m || starts.len() < n {
-        return Step::Cut;
+        return Ok(Step::Cut);
     }
-    let held = change_lent(
+    change_lent(
         op,
         part(s, 5, h.table),
         &mut words[0..m],
@@ -135,21 +133,19 @@ fn change_parts(
         h.counters,
         given,
         out,
-        held,
-    );
-    done(end, out, held)
+    )?;
+    done(end, out)
 }
 
 // A call that changes one arena.
-pub fn change(
+pub fn change<W: Write>(
     op: usize,
     s: &[u8],
-    words: &mut Words,
-    starts: &mut Words,
-    given: &mut Words,
-    out: &mut Output,
-    held: usize,
-) -> Step {
+    words: &mut [u32],
+    starts: &mut [u32],
+    given: &mut [u32],
+    out: &mut W,
+) -> io::Result<Step> {
     let h = lend_host(s, words, starts);
     let read = read_given(op, s, h.next, given);
     change_parts(
@@ -161,6 +157,5 @@ pub fn change(
         first(given, read.count),
         read.next,
         out,
-        held,
     )
 }

@@ -1,26 +1,27 @@
 // A type copied into a second arena.
 use answer_writing::lines::{Step, counters, done, memory, ok, refused};
-use answer_writing::output::Output;
-use case_reading::host::{Host, LentMemory, Words, lend_host, lend_memory};
+use case_reading::host::{Host, LentMemory, lend_host, lend_memory};
 use case_reading::numbers::{add, first, part, word};
 use compact::{Compacted, Copied, compact};
+use std::io;
+use std::io::Write;
 use types::Counters;
 use types::arc_ty::wide;
 
 // What `compact` answered.
-fn copied(out: &mut Output, held: usize, answer: Copied) -> usize {
+fn copied<W: Write>(out: &mut W, answer: Copied) -> io::Result<()> {
     match answer {
-        Copied::Root(number) => ok(out, held, wide(number)),
-        Copied::Refused(number) => refused(out, held, number),
+        Copied::Root(number) => ok(out, wide(number)),
+        Copied::Refused(number) => refused(out, number),
     }
 }
 
 // The same, with the counters of its target, which are part of every answer.
-fn compacted(out: &mut Output, held: usize, r: Compacted) -> usize {
+fn compacted<W: Write>(out: &mut W, r: Compacted) -> io::Result<()> {
     let after = r.counters;
     let answer = r.answer;
-    let held = copied(out, held, answer);
-    counters(out, held, after)
+    copied(out, answer)?;
+    counters(out, after)
 }
 
 // The call, on what was lent.
@@ -46,7 +47,7 @@ fn compact_host(
 }
 
 // What it answered, and the target's memory as it leaves it.
-fn compact_lent(
+fn compact_lent<W: Write>(
     s: &[u8],
     h: Host,
     words: &[u32],
@@ -54,16 +55,15 @@ fn compact_lent(
     target_words: &mut [u32],
     target_starts: &mut [u32],
     d: Counters,
-    out: &mut Output,
-    held: usize,
-) -> usize {
+    out: &mut W,
+) -> io::Result<()> {
     let r = compact_host(s, h, words, starts, target_words, target_starts, d);
-    let held = compacted(out, held, r);
-    memory(out, held, target_words, target_starts)
+    compacted(out, r)?;
+    memory(out, target_words, target_starts)
 }
 
 // The same for the parts of a case.
-fn compact_parts(
+fn compact_parts<W: Write>(
     s: &[u8],
     h: Host,
     t: LentMemory,
@@ -71,15 +71,14 @@ fn compact_parts(
     starts: &[u32],
     target_words: &mut [u32],
     target_starts: &mut [u32],
-    out: &mut Output,
-    held: usize,
-) -> Step {
+    out: &mut W,
+) -> io::Result<Step> {
     let m = t.words;
     let n = t.starts;
     if s.len() < t.next || target_words.len() < m || target_starts.len() < n {
-        return Step::Cut;
+        return Ok(Step::Cut);
     }
-    let held = compact_lent(
+    compact_lent(
         s,
         h,
         words,
@@ -88,32 +87,20 @@ fn compact_parts(
         &mut target_starts[0..n],
         t.counters,
         out,
-        held,
-    );
-    done(t.next, out, held)
+    )?;
+    done(t.next, out)
 }
 
 // A type copied into a second arena.
-pub fn compaction(
+pub fn compaction<W: Write>(
     s: &[u8],
-    words: &mut Words,
-    starts: &mut Words,
-    target_words: &mut Words,
-    target_starts: &mut Words,
-    out: &mut Output,
-    held: usize,
-) -> Step {
+    words: &mut [u32],
+    starts: &mut [u32],
+    target_words: &mut [u32],
+    target_starts: &mut [u32],
+    out: &mut W,
+) -> io::Result<Step> {
     let h = lend_host(s, words, starts);
     let t = lend_memory(s, add(h.next, 4), target_words, target_starts);
-    compact_parts(
-        s,
-        h,
-        t,
-        words,
-        starts,
-        target_words,
-        target_starts,
-        out,
-        held,
-    )
+    compact_parts(s, h, t, words, starts, target_words, target_starts, out)
 }

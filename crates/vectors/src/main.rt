@@ -7,60 +7,58 @@ mod copies;
 mod sheets;
 
 use answer_writing::lines::Step;
-use answer_writing::output::{Output, flush};
 use answers::change;
-use case_reading::host::Words;
-use case_reading::input::{Buffer, past, refill, start, unused};
-use case_reading::numbers::{MOST, byte};
+use case_reading::host::WORDS;
+use case_reading::input::{BUFFER, past, refill, start, unused};
+use case_reading::numbers::byte;
+use std::io;
+use std::io::{BufWriter, Read, Write};
 
 // The answer to the case at the front if it changes one arena.
-fn one_arena(
+fn one_arena<W: Write>(
     op: usize,
     s: &[u8],
-    words: &mut Words,
-    starts: &mut Words,
-    given: &mut Words,
-    out: &mut Output,
-    held: usize,
-) -> Step {
+    words: &mut [u32],
+    starts: &mut [u32],
+    given: &mut [u32],
+    out: &mut W,
+) -> io::Result<Step> {
     match op {
-        2 | 4 | 10 | 12 | 17 => change(op, s, words, starts, given, out, held),
-        _ => Step::Cut,
+        2 | 4 | 10 | 12 | 17 => change(op, s, words, starts, given, out),
+        _ => Ok(Step::Cut),
     }
 }
 
 // The answer to the case at the front.
-fn answer(
+fn answer<W: Write>(
     s: &[u8],
-    words: &mut Words,
-    starts: &mut Words,
-    more_words: &mut Words,
-    more_starts: &mut Words,
-    out: &mut Output,
-    held: usize,
-) -> Step {
+    words: &mut [u32],
+    starts: &mut [u32],
+    more_words: &mut [u32],
+    more_starts: &mut [u32],
+    out: &mut W,
+) -> io::Result<Step> {
     match byte(s, 0) {
-        8 => sheets::sheet(s, out, held),
-        18 => copies::compaction(s, words, starts, more_words, more_starts, out, held),
-        24 => sheets::conversion(s, out, held),
-        op => one_arena(op, s, words, starts, more_words, out, held),
+        8 => sheets::sheet(s, out),
+        18 => copies::compaction(s, words, starts, more_words, more_starts, out),
+        24 => sheets::conversion(s, out),
+        op => one_arena(op, s, words, starts, more_words, out),
     }
 }
 
-// Case after case. Nothing says that input ends, so the cases are counted down.
-fn answer_all(
-    buf: &mut Buffer,
-    words: &mut Words,
-    starts: &mut Words,
-    more_words: &mut Words,
-    more_starts: &mut Words,
-    out: &mut Output,
-) {
+// Case after case. Nothing says that input ends, so the cases are counted.
+fn answer_all<R: Read, W: Write>(
+    reader: &mut R,
+    buf: &mut [u8],
+    words: &mut [u32],
+    starts: &mut [u32],
+    more_words: &mut [u32],
+    more_starts: &mut [u32],
+    out: &mut W,
+) -> io::Result<()> {
     let mut input = start();
-    let mut held: usize = 0;
-    let mut left = MOST;
-    while left > 0 {
-        input = refill(buf, input);
+    for _ in 0..u64::MAX {
+        input = refill(reader, buf, input)?;
         let step = answer(
             unused(buf, input),
             words,
@@ -68,36 +66,30 @@ fn answer_all(
             more_words,
             more_starts,
             out,
-            held,
-        );
-        let Step::Done {
-            used,
-            held: now_held,
-        } = step
-        else {
-            flush(out, held);
-            return;
+        )?;
+        let Step::Done { used } = step else {
+            break;
         };
         input = past(input, used);
-        held = now_held;
-        left -= 1;
     }
+    out.flush()
 }
 
 // The memory that every case uses in turn.
-fn main() {
-    let mut buf = [0u8; 1572864];
-    let mut words = [0u32; 65535];
-    let mut starts = [0u32; 65535];
-    let mut more_words = [0u32; 65535];
-    let mut more_starts = [0u32; 65535];
-    let mut out = [0u8; 65536];
+fn main(rt: HostRuntime) -> io::Result<()> {
+    let mut buf = vec![in rt.alloc(); 0u8; BUFFER]?;
+    let mut words = vec![in rt.alloc(); 0u32; WORDS]?;
+    let mut starts = vec![in rt.alloc(); 0u32; WORDS]?;
+    let mut more_words = vec![in rt.alloc(); 0u32; WORDS]?;
+    let mut more_starts = vec![in rt.alloc(); 0u32; WORDS]?;
+    let mut out = BufWriter::new(rt.alloc(), io::writer(&rt))?;
     answer_all(
+        &mut rt.reader(),
         &mut buf,
         &mut words,
         &mut starts,
         &mut more_words,
         &mut more_starts,
         &mut out,
-    );
+    )
 }

@@ -1,13 +1,14 @@
 // A type imported into a second arena, which has a name table of its own.
 use answer_writing::lines::{Step, done, interned, memory};
-use answer_writing::output::Output;
-use case_reading::host::{Host, Words, lend_host};
+use case_reading::host::{Host, lend_host};
 use case_reading::numbers::{add, byte, first, part, word};
 use import::import_from_arena;
+use std::io;
+use std::io::Write;
 
 // What the call answers on what was lent, the source in `s` and the target's table in the rest of it, and the target's memory as
 // it leaves it.
-fn import_lent(
+fn import_lent<W: Write>(
     s: &[u8],
     h: Host,
     words: &[u32],
@@ -16,9 +17,8 @@ fn import_lent(
     g: Host,
     target_words: &mut [u32],
     target_starts: &mut [u32],
-    out: &mut Output,
-    held: usize,
-) -> usize {
+    out: &mut W,
+) -> io::Result<()> {
     let r = import_from_arena(
         part(s, 5, h.table),
         first(words, h.words),
@@ -30,12 +30,12 @@ fn import_lent(
         target_starts,
         g.counters,
     );
-    let held = interned(out, held, r);
-    memory(out, held, target_words, target_starts)
+    interned(out, r)?;
+    memory(out, target_words, target_starts)
 }
 
 // The same for the parts of a case.
-fn import_parts(
+fn import_parts<W: Write>(
     s: &[u8],
     h: Host,
     words: &[u32],
@@ -44,16 +44,15 @@ fn import_parts(
     g: Host,
     target_words: &mut [u32],
     target_starts: &mut [u32],
-    out: &mut Output,
-    held: usize,
-) -> Step {
+    out: &mut W,
+) -> io::Result<Step> {
     let end = add(add(h.next, 3), g.next);
     let m = g.words;
     let n = g.starts;
     if s.len() < end || target_words.len() < m || target_starts.len() < n {
-        return Step::Cut;
+        return Ok(Step::Cut);
     }
-    let held = import_lent(
+    import_lent(
         s,
         h,
         words,
@@ -63,23 +62,21 @@ fn import_parts(
         &mut target_words[0..m],
         &mut target_starts[0..n],
         out,
-        held,
-    );
-    done(end, out, held)
+    )?;
+    done(end, out)
 }
 
 // The answer to the case at the front. The rest begins with the last byte of the root, as a case begins with its number.
-pub fn importation(
+pub fn importation<W: Write>(
     s: &[u8],
-    words: &mut Words,
-    starts: &mut Words,
-    target_words: &mut Words,
-    target_starts: &mut Words,
-    out: &mut Output,
-    held: usize,
-) -> Step {
+    words: &mut [u32],
+    starts: &mut [u32],
+    target_words: &mut [u32],
+    target_starts: &mut [u32],
+    out: &mut W,
+) -> io::Result<Step> {
     if byte(s, 0) != 26 {
-        return Step::Cut;
+        return Ok(Step::Cut);
     }
     let h = lend_host(s, words, starts);
     let rest = part(s, add(h.next, 3), s.len());
@@ -94,6 +91,5 @@ pub fn importation(
         target_words,
         target_starts,
         out,
-        held,
     )
 }

@@ -5,26 +5,25 @@
 mod imports;
 
 use answer_writing::lines::Step;
-use answer_writing::output::{Output, flush};
-use case_reading::host::Words;
-use case_reading::input::{Buffer, past, refill, start, unused};
-use case_reading::numbers::MOST;
+use case_reading::host::WORDS;
+use case_reading::input::{BUFFER, past, refill, start, unused};
 use imports::importation;
+use std::io;
+use std::io::{BufWriter, Read, Write};
 
-// Case after case. Nothing says that input ends, so the cases are counted down.
-fn answer_all(
-    buf: &mut Buffer,
-    words: &mut Words,
-    starts: &mut Words,
-    target_words: &mut Words,
-    target_starts: &mut Words,
-    out: &mut Output,
-) {
+// Case after case. Nothing says that input ends, so the cases are counted.
+fn answer_all<R: Read, W: Write>(
+    reader: &mut R,
+    buf: &mut [u8],
+    words: &mut [u32],
+    starts: &mut [u32],
+    target_words: &mut [u32],
+    target_starts: &mut [u32],
+    out: &mut W,
+) -> io::Result<()> {
     let mut input = start();
-    let mut held: usize = 0;
-    let mut left = MOST;
-    while left > 0 {
-        input = refill(buf, input);
+    for _ in 0..u64::MAX {
+        input = refill(reader, buf, input)?;
         let step = importation(
             unused(buf, input),
             words,
@@ -32,36 +31,30 @@ fn answer_all(
             target_words,
             target_starts,
             out,
-            held,
-        );
-        let Step::Done {
-            used,
-            held: now_held,
-        } = step
-        else {
-            flush(out, held);
-            return;
+        )?;
+        let Step::Done { used } = step else {
+            break;
         };
         input = past(input, used);
-        held = now_held;
-        left -= 1;
     }
+    out.flush()
 }
 
 // The memory that every case uses in turn.
-fn main() {
-    let mut buf = [0u8; 1572864];
-    let mut words = [0u32; 65535];
-    let mut starts = [0u32; 65535];
-    let mut target_words = [0u32; 65535];
-    let mut target_starts = [0u32; 65535];
-    let mut out = [0u8; 65536];
+fn main(rt: HostRuntime) -> io::Result<()> {
+    let mut buf = vec![in rt.alloc(); 0u8; BUFFER]?;
+    let mut words = vec![in rt.alloc(); 0u32; WORDS]?;
+    let mut starts = vec![in rt.alloc(); 0u32; WORDS]?;
+    let mut target_words = vec![in rt.alloc(); 0u32; WORDS]?;
+    let mut target_starts = vec![in rt.alloc(); 0u32; WORDS]?;
+    let mut out = BufWriter::new(rt.alloc(), io::writer(&rt))?;
     answer_all(
+        &mut rt.reader(),
         &mut buf,
         &mut words,
         &mut starts,
         &mut target_words,
         &mut target_starts,
         &mut out,
-    );
+    )
 }

@@ -7,45 +7,44 @@ mod pairs;
 mod texts;
 
 use answer_writing::lines::Step;
-use answer_writing::output::{Output, flush};
-use case_reading::host::Words;
-use case_reading::input::{Buffer, past, refill, start, unused};
-use case_reading::numbers::{MOST, byte};
-use texts::Text;
+use case_reading::host::WORDS;
+use case_reading::input::{BUFFER, past, refill, start, unused};
+use case_reading::numbers::byte;
+use std::io;
+use std::io::{BufWriter, Read, Write};
+use texts::TEXT;
 
 // The answer to the case at the front.
-fn answer(
+fn answer<W: Write>(
     s: &[u8],
-    words: &mut Words,
-    starts: &mut Words,
-    other_words: &mut Words,
-    other_starts: &mut Words,
-    text: &mut Text,
-    out: &mut Output,
-    held: usize,
-) -> Step {
+    words: &mut [u32],
+    starts: &mut [u32],
+    other_words: &mut [u32],
+    other_starts: &mut [u32],
+    text: &mut [u8],
+    out: &mut W,
+) -> io::Result<Step> {
     match byte(s, 0) {
-        5 | 21 | 23 => texts::write(s, words, starts, text, out, held),
-        19 => pairs::equality(s, words, starts, other_words, other_starts, out, held),
-        op => answers::one_arena(op, s, words, starts, out, held),
+        5 | 21 | 23 => texts::write(s, words, starts, text, out),
+        19 => pairs::equality(s, words, starts, other_words, other_starts, out),
+        op => answers::one_arena(op, s, words, starts, out),
     }
 }
 
-// Case after case. Nothing says that input ends, so the cases are counted down.
-fn answer_all(
-    buf: &mut Buffer,
-    words: &mut Words,
-    starts: &mut Words,
-    other_words: &mut Words,
-    other_starts: &mut Words,
-    text: &mut Text,
-    out: &mut Output,
-) {
+// Case after case. Nothing says that input ends, so the cases are counted.
+fn answer_all<R: Read, W: Write>(
+    reader: &mut R,
+    buf: &mut [u8],
+    words: &mut [u32],
+    starts: &mut [u32],
+    other_words: &mut [u32],
+    other_starts: &mut [u32],
+    text: &mut [u8],
+    out: &mut W,
+) -> io::Result<()> {
     let mut input = start();
-    let mut held: usize = 0;
-    let mut left = MOST;
-    while left > 0 {
-        input = refill(buf, input);
+    for _ in 0..u64::MAX {
+        input = refill(reader, buf, input)?;
         let step = answer(
             unused(buf, input),
             words,
@@ -54,32 +53,26 @@ fn answer_all(
             other_starts,
             text,
             out,
-            held,
-        );
-        let Step::Done {
-            used,
-            held: now_held,
-        } = step
-        else {
-            flush(out, held);
-            return;
+        )?;
+        let Step::Done { used } = step else {
+            break;
         };
         input = past(input, used);
-        held = now_held;
-        left -= 1;
     }
+    out.flush()
 }
 
 // The memory that every case uses in turn.
-fn main() {
-    let mut buf = [0u8; 1572864];
-    let mut words = [0u32; 65535];
-    let mut starts = [0u32; 65535];
-    let mut other_words = [0u32; 65535];
-    let mut other_starts = [0u32; 65535];
-    let mut text = [0u8; 70000];
-    let mut out = [0u8; 65536];
+fn main(rt: HostRuntime) -> io::Result<()> {
+    let mut buf = vec![in rt.alloc(); 0u8; BUFFER]?;
+    let mut words = vec![in rt.alloc(); 0u32; WORDS]?;
+    let mut starts = vec![in rt.alloc(); 0u32; WORDS]?;
+    let mut other_words = vec![in rt.alloc(); 0u32; WORDS]?;
+    let mut other_starts = vec![in rt.alloc(); 0u32; WORDS]?;
+    let mut text = vec![in rt.alloc(); 0u8; TEXT]?;
+    let mut out = BufWriter::new(rt.alloc(), io::writer(&rt))?;
     answer_all(
+        &mut rt.reader(),
         &mut buf,
         &mut words,
         &mut starts,
@@ -87,5 +80,5 @@ fn main() {
         &mut other_starts,
         &mut text,
         &mut out,
-    );
+    )
 }

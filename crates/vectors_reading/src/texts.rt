@@ -1,15 +1,17 @@
 // The text of a type, and the sheet of an arena: the calls that write into lent bytes.
 use answer_writing::lines::{Step, done, ok, refused};
-use answer_writing::output::{Output, put_bytes, put_text};
-use case_reading::host::{Host, Words, lend_host};
+use answer_writing::output::{put_bytes, put_text};
+use case_reading::host::{Host, lend_host};
 use case_reading::numbers::{add, byte, first, part, word};
 use display::{Displayed, display, display_nix};
 use sheet_writing::{Written, write_sheet};
+use std::io;
+use std::io::Write;
 use types::Counters;
 use types::arc_ty::wide;
 
 // As many bytes as a text can be lent.
-pub type Text = [u8; 70000];
+pub const TEXT: usize = 70000;
 
 // The operation that is `display`, and the one that is `write_sheet`.
 const DISPLAY: usize = 5;
@@ -65,23 +67,23 @@ fn left_right(op: usize, r: Displayed, text: &[u8]) -> bool {
 }
 
 // What the call answered, and what it wrote.
-fn displayed(out: &mut Output, held: usize, r: Displayed, text: &[u8]) -> usize {
+fn displayed<W: Write>(out: &mut W, r: Displayed, text: &[u8]) -> io::Result<()> {
     match r {
         Displayed::Text(length) => {
-            let held = ok(out, held, length);
-            put_bytes(out, held, part(text, 0, length))
+            ok(out, length)?;
+            put_bytes(out, part(text, 0, length))
         }
-        Displayed::Refused(number) => refused(out, held, number),
+        Displayed::Refused(number) => refused(out, number),
     }
 }
 
 // The line of an answer. What the call left beside it is judged here, for no answer shows it.
-fn judged(op: usize, out: &mut Output, held: usize, r: Displayed, text: &[u8]) -> usize {
-    let held = displayed(out, held, r, text);
+fn judged<W: Write>(op: usize, out: &mut W, r: Displayed, text: &[u8]) -> io::Result<()> {
+    displayed(out, r, text)?;
     if left_right(op, r, text) {
-        return held;
+        return Ok(());
     }
-    put_text(out, held, b" with bytes that aren't as they should be")
+    put_text(out, b" with bytes that aren't as they should be")
 }
 
 // The answer of `write_sheet` as one of `display`.
@@ -125,20 +127,19 @@ fn call(
 }
 
 // The same for the parts of a case, on bytes that all have the same value.
-fn write_parts(
+fn write_parts<W: Write>(
     s: &[u8],
     h: Host,
     words: &[u32],
     starts: &[u32],
     text: &mut [u8],
-    out: &mut Output,
-    held: usize,
-) -> Step {
+    out: &mut W,
+) -> io::Result<Step> {
     let op = byte(s, 0);
     let lent = wide(word(s, add(h.next, 4)));
     let end = add(h.next, 8);
     if s.len() < end || text.len() < lent {
-        return Step::Cut;
+        return Ok(Step::Cut);
     }
     let text = &mut text[0..lent];
     fill(text, UNTOUCHED);
@@ -151,19 +152,18 @@ fn write_parts(
         word(s, h.next),
         text,
     );
-    let held = judged(op, out, held, r, text);
-    done(end, out, held)
+    judged(op, out, r, text)?;
+    done(end, out)
 }
 
 // The text of a type, or the sheet of an arena.
-pub fn write(
+pub fn write<W: Write>(
     s: &[u8],
-    words: &mut Words,
-    starts: &mut Words,
-    text: &mut Text,
-    out: &mut Output,
-    held: usize,
-) -> Step {
+    words: &mut [u32],
+    starts: &mut [u32],
+    text: &mut [u8],
+    out: &mut W,
+) -> io::Result<Step> {
     let h = lend_host(s, words, starts);
-    write_parts(s, h, words, starts, text, out, held)
+    write_parts(s, h, words, starts, text, out)
 }

@@ -5,101 +5,75 @@ use questions::lambdas::has_shared_tyvar_across_lambda_params;
 use questions::named::{Unwrapped, unwrap_named};
 use questions::vars::{Asked, contains_bare_tyvar, has_type_vars, needs_var_normalization};
 use simplify::{Simplified, simplify};
+use std::io;
+use std::io::Write;
 use types::Counters;
-use types::arc_ty::wide;
 use walks::reach::{Counted, count_reachable};
 
-fn say(text: &[u8]) {
-    io::write_all(1, text);
+fn label(rt: &impl Print, shape: &str, call: &str) -> io::Result<()> {
+    print!(rt; "{shape}, {call}: ")
 }
 
-fn label(shape: &[u8], call: &[u8]) {
-    say(shape);
-    say(b", ");
-    say(call);
-    say(b": ");
+fn refused(rt: &impl Print, n: u32) -> io::Result<()> {
+    println!(rt; "refused {n}")
 }
 
-fn number(before: &[u8], n: usize) {
-    say(before);
-    io::print_decimal(1, n as u64);
-    say(b"\n");
-}
-
-fn refused(n: u32) {
-    number(b"refused ", wide(n));
-}
-
-fn yes(so: bool) {
+fn yes(rt: &impl Print, so: bool) -> io::Result<()> {
     if so {
-        say(b"yes\n");
+        println!(rt; "yes")
     } else {
-        say(b"no\n");
+        println!(rt; "no")
     }
 }
 
-fn asked(shape: &[u8], call: &[u8], r: Asked) {
-    label(shape, call);
+fn asked(rt: &impl Print, shape: &str, call: &str, r: Asked) -> io::Result<()> {
+    label(rt, shape, call)?;
     match r {
-        Asked::Is(so) => yes(so),
-        Asked::Refused(n) => refused(n),
+        Asked::Is(so) => yes(rt, so),
+        Asked::Refused(n) => refused(rt, n),
     }
 }
 
-fn unwrapped(shape: &[u8], r: Unwrapped) {
-    label(shape, b"unwrap_named");
+fn unwrapped(rt: &impl Print, shape: &str, r: Unwrapped) -> io::Result<()> {
+    label(rt, shape, "unwrap_named")?;
     match r {
-        Unwrapped::Node(n) => number(b"ok ", n),
-        Unwrapped::Refused(n) => refused(n),
+        Unwrapped::Node(n) => println!(rt; "ok {n}"),
+        Unwrapped::Refused(n) => refused(rt, n),
     }
 }
 
-fn counted(shape: &[u8], r: Counted) {
-    label(shape, b"count_reachable");
+fn counted(rt: &impl Print, shape: &str, r: Counted) -> io::Result<()> {
+    label(rt, shape, "count_reachable")?;
     match r {
-        Counted::Nodes(n) => number(b"ok ", wide(n)),
-        Counted::Refused(n) => refused(n),
+        Counted::Nodes(n) => println!(rt; "ok {n}"),
+        Counted::Refused(n) => refused(rt, n),
     }
 }
 
-fn index(n: u32) {
-    say(b" ");
-    io::print_hex(1, n as u64, 1);
-}
-
-fn indexes(vars: &[u32], count: usize) {
-    let mut i = 0;
-    while i < vars.len() {
-        if i >= count {
-            return;
-        }
-        index(vars[i]);
-        i += 1;
+// The first indexes, as many as this.
+fn indexes(rt: &impl Print, vars: &[u32], count: usize) -> io::Result<()> {
+    for var in vars.iter().take(count) {
+        print!(rt; " {var:x}")?;
     }
+    Ok(())
 }
 
 // How many variables there are, and their indexes.
-fn variables(list: VarList) {
+fn variables(rt: &impl Print, list: VarList) -> io::Result<()> {
     let vars = list.vars;
     let count = list.count;
-    say(b"ok ");
-    io::print_decimal(1, count as u64);
-    indexes(&vars, count);
-    say(b"\n");
+    print!(rt; "ok {count}")?;
+    indexes(rt, &vars, count)?;
+    println!(rt; "")
 }
 
-fn listed(shape: &[u8], r: FreeVars) {
-    label(shape, b"free_type_vars");
+fn listed(rt: &impl Print, shape: &str, r: FreeVars) -> io::Result<()> {
+    label(rt, shape, "free_type_vars")?;
     let answer = r.answer;
     match answer {
-        Answer::Listed => variables(r.list),
-        Answer::Refused(n) => refused(n),
+        Answer::Listed => variables(rt, r.list),
+        Answer::Refused(n) => refused(rt, n),
     }
-}
-
-fn and(n: usize) {
-    say(b" ");
-    io::print_decimal(1, n as u64);
 }
 
 // The first bytes of a text, as many as this; none where they aren't there.
@@ -119,67 +93,69 @@ fn few(n: usize) -> usize {
 }
 
 // The length of the text, and how it begins.
-fn printed(text: &[u8], n: usize) {
-    say(b"ok");
-    and(n);
-    say(b" ");
-    say(front(text, few(n)));
-    say(b"\n");
+fn printed(rt: &impl Print, text: &[u8], n: usize) -> io::Result<()> {
+    print!(rt; "ok {n} ")?;
+    io::writer(rt).write_all(front(text, few(n)))?;
+    println!(rt; "")
 }
 
-fn displayed(shape: &[u8], r: Displayed, text: &[u8]) {
-    label(shape, b"display");
+fn displayed(rt: &impl Print, shape: &str, r: Displayed, text: &[u8]) -> io::Result<()> {
+    label(rt, shape, "display")?;
     match r {
-        Displayed::Text(n) => printed(text, n),
-        Displayed::Refused(n) => refused(n),
+        Displayed::Text(n) => printed(rt, text, n),
+        Displayed::Refused(n) => refused(rt, n),
     }
 }
 
 // The root after, the passes made and the counters.
-fn changed(root: u32, passes: u32, c: Counters) {
-    say(b"ok");
-    and(wide(root));
-    and(wide(passes));
-    and(c.nodes);
-    and(c.words);
-    say(b"\n");
+fn changed(rt: &impl Print, root: u32, passes: u32, c: Counters) -> io::Result<()> {
+    println!(rt; "ok {root} {passes} {} {}", c.nodes, c.words)
 }
 
-fn simplified(shape: &[u8], r: Simplified) {
-    label(shape, b"simplify");
+fn simplified(rt: &impl Print, shape: &str, r: Simplified) -> io::Result<()> {
+    label(rt, shape, "simplify")?;
     match r {
-        Simplified::Type(root, passes, c) => changed(root, passes, c),
-        Simplified::Refused(n) => refused(n),
+        Simplified::Type(root, passes, c) => changed(rt, root, passes, c),
+        Simplified::Refused(n) => refused(rt, n),
     }
 }
 
 // The questions.
-fn ask(shape: &[u8], table: &[u8], words: &[u32], starts: &[u32], c: Counters, root: u32) {
+fn ask(
+    rt: &impl Print,
+    shape: &str,
+    table: &[u8],
+    words: &[u32],
+    starts: &[u32],
+    c: Counters,
+    root: u32,
+) -> io::Result<()> {
     let r = has_type_vars(table, words, starts, c, root);
-    asked(shape, b"has_type_vars", r);
+    asked(rt, shape, "has_type_vars", r)?;
     let r = contains_bare_tyvar(table, words, starts, c, root);
-    asked(shape, b"contains_bare_tyvar", r);
+    asked(rt, shape, "contains_bare_tyvar", r)?;
     let r = has_shared_tyvar_across_lambda_params(table, words, starts, c, root);
-    asked(shape, b"has_shared_tyvar_across_lambda_params", r);
+    asked(rt, shape, "has_shared_tyvar_across_lambda_params", r)?;
     let r = needs_var_normalization(table, words, starts, c, root);
-    asked(shape, b"needs_var_normalization", r);
-    unwrapped(shape, unwrap_named(table, words, starts, c, root));
-    counted(shape, count_reachable(table, words, starts, c, root));
-    listed(shape, free_type_vars(table, words, starts, c, root));
+    asked(rt, shape, "needs_var_normalization", r)?;
+    unwrapped(rt, shape, unwrap_named(table, words, starts, c, root))?;
+    counted(rt, shape, count_reachable(table, words, starts, c, root))?;
+    listed(rt, shape, free_type_vars(table, words, starts, c, root))
 }
 
 // All calls, under the names p and q; the one that changes memory comes last.
 pub fn ask_all(
-    shape: &[u8],
+    rt: &impl Print,
+    shape: &str,
     words: &mut [u32],
     starts: &mut [u32],
     c: Counters,
     root: u32,
     text: &mut [u8],
-) {
+) -> io::Result<()> {
     let table = [1, b'p', 1, b'q'];
-    ask(shape, &table, words, starts, c, root);
+    ask(rt, shape, &table, words, starts, c, root)?;
     let r = display(&table, words, starts, c, root, text);
-    displayed(shape, r, text);
-    simplified(shape, simplify(&table, words, starts, c, root));
+    displayed(rt, shape, r, text)?;
+    simplified(rt, shape, simplify(&table, words, starts, c, root))
 }

@@ -7,54 +7,57 @@ mod lines;
 
 use deep_types::{Step, put_chain, put_pair};
 use lines::ask_all;
+use std::io;
 use types::arc_ty::Head;
 
-fn chain(shape: &[u8], int: bool, step: Step) {
+fn chain(rt: &impl Print, shape: &str, int: bool, step: Step) -> io::Result<()> {
     let mut words = [0u32; 16384];
     let mut starts = [0u32; 4096];
     let c = put_chain(&mut words, &mut starts, int, step);
     let mut text = [0u8; 65536];
-    ask_all(shape, &mut words, &mut starts, c, 4095, &mut text);
+    ask_all(rt, shape, &mut words, &mut starts, c, 4095, &mut text)
 }
 
-fn pair(shape: &[u8], q: u32) {
+fn pair(rt: &impl Print, shape: &str, q: u32) -> io::Result<()> {
     let mut words = [0u32; 16384];
     let mut starts = [0u32; 4096];
     let c = put_pair(&mut words, &mut starts, q);
     let mut text = [0u8; 65536];
-    ask_all(shape, &mut words, &mut starts, c, 5, &mut text);
+    ask_all(rt, shape, &mut words, &mut starts, c, 5, &mut text)
 }
 
 // Each node is both children of the next, so the variable has 2^4095 places.
-fn shared() {
-    chain(b"shared lambdas", false, Step::Both(Head::LAMBDA));
-    chain(b"shared unions", false, Step::Both(Head::UNION));
+fn shared(rt: &impl Print) -> io::Result<()> {
+    chain(rt, "shared lambdas", false, Step::Both(Head::LAMBDA))?;
+    chain(rt, "shared unions", false, Step::Both(Head::UNION))
 }
 
 // Each node is a child of the next. A lambda's other child is the variable, and int is below such a chain.
-fn deep() {
-    chain(b"lists", false, Step::Child(Head::LIST, Head::LIST));
-    chain(b"lambdas by param", true, Step::Param);
-    chain(b"lambdas by body", true, Step::Body);
-    chain(b"unions", false, Step::Child(Head::UNION, Head::UNION));
+fn deep(rt: &impl Print) -> io::Result<()> {
+    chain(rt, "lists", false, Step::Child(Head::LIST, Head::LIST))?;
+    chain(rt, "lambdas by param", true, Step::Param)?;
+    chain(rt, "lambdas by body", true, Step::Body)?;
+    chain(rt, "unions", false, Step::Child(Head::UNION, Head::UNION))?;
     chain(
-        b"intersections",
+        rt,
+        "intersections",
         false,
         Step::Child(Head::INTERSECTION, Head::INTERSECTION),
-    );
+    )?;
     chain(
-        b"unions and intersections",
+        rt,
+        "unions and intersections",
         false,
         Step::Child(Head::UNION, Head::INTERSECTION),
-    );
-    chain(b"negs", false, Step::Child(Head::NEG, Head::NEG));
-    chain(b"names", false, Step::Field(Head::NAMED));
-    chain(b"sets", false, Step::Field(Head::ATTR_SET));
+    )?;
+    chain(rt, "negs", false, Step::Child(Head::NEG, Head::NEG))?;
+    chain(rt, "names", false, Step::Field(Head::NAMED))?;
+    chain(rt, "sets", false, Step::Field(Head::ATTR_SET))
 }
 
-fn main() {
-    shared();
-    deep();
-    pair(b"one lambda twice", 3);
-    pair(b"two lambdas", 4);
+fn main(rt: HostRuntime) -> io::Result<()> {
+    shared(&rt)?;
+    deep(&rt)?;
+    pair(&rt, "one lambda twice", 3)?;
+    pair(&rt, "two lambdas", 4)
 }

@@ -7,7 +7,7 @@ use native.Mathlib.Omega.{arith}
 use lib.ListN.{length, get_or}
 use lib.Dec.{eqb}
 use borrow.Author.Tests.{eqb-true, eq-eqb}
-use Rattle.types.specs.Node.{Polarity, positive, tag, children}
+use Rattle.types.specs.Node.{Polarity, positive, tag, children, Node}
 use Rattle.types.specs.Arena.{Arena, at, sound}
 use Rattle.types.specs.Places.{child_sign, Place, self, down}
 use Rattle.types.proofs.Tests.{true_false}
@@ -45,11 +45,11 @@ module _ (table : ℕ) (a : Arena) (h : sound table a ≡ true) (u : ℕ) where
   -- the test at a node, from the nodes before it
   at_node : (n : ℕ) (l : n < length a) → reaches a n u ≡ (eqb u (length (before a n l).older) || some_of (map (λ (c : ℕ). reaches (before a n l).older c u) (children (at a n))))
   unfolding reaches
-  at_node n l = ap (λ (f : ℕ → Bool). f u) (rec_at _ _ a n l)
+  at_node n l = ap (λ (f : ℕ → Bool). f u) (rec_at (λ (s : Arena) (x : Node) (f : ℕ → ℕ → Bool) (u : ℕ). eqb u (length s) || some_of (map (λ (c : ℕ). f c u) (children x))) (λ u. false) a n l)
 
   older : (n : ℕ) (l : n < length a) (c : ℕ) → c < n → reaches a c u ≡ reaches (before a n l).older c u
   unfolding reaches
-  older n l c k = let B = before a n l in ap (λ (f : ℕ → Bool). f u) (ext_rec _ _ B.older a (ext_tail B.ext) c (omega (arith, B.count)))
+  older n l c k = let B = before a n l in ap (λ (f : ℕ → Bool). f u) (ext_rec (λ (s : Arena) (x : Node) (f : ℕ → ℕ → Bool) (u : ℕ). eqb u (length s) || some_of (map (λ (c : ℕ). f c u) (children x))) (λ u. false) B.older a (ext_tail B.ext) c (omega (arith, B.count)))
 
   record Led (n : ℕ) (s : Polarity) : Type 0 where
     pub sign : Polarity

@@ -1,0 +1,16 @@
+-- The head counts the members.
+use Rattle.member_lists.proofs.ListNodes.{head_fits, list_cut, list_fresh, list_interned}
+use borrow.Author.Rules.{rules}
+use Rattle.member_lists.proofs.intern_list.Goals as goal
+
+pub new-head-requires : goal.new-head-requires
+new-head-requires c = search head_fits
+
+pub slice_bounds-intern_near-end : goal.slice_bounds-intern_near-end
+slice_bounds-intern_near-end c = search list_cut
+
+pub intern_near-requires-clause-fresh : goal.intern_near-requires-clause-fresh
+intern_near-requires-clause-fresh c = search list_fresh
+
+pub returns-clause-interns_list : goal.returns-clause-interns_list
+returns-clause-interns_list c = search list_interned

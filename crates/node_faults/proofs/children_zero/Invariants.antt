@@ -1,0 +1,12 @@
+-- `children_zero` tests the zero field of each child word. The loop's invariant: the words passed have it zero.
+use Prim.Native.Nat.{◌-◌}
+use lib.ListN.{length}
+use Rattle.words.specs.Words.{child_zero}
+use Rattle.node_faults.proofs.Passing.{Passed, is_zero}
+use Rattle.node_faults.proofs.children_zero.Given as goal
+
+abbrev pub invariant-loop-i : goal.invariant-loop-i
+invariant-loop-i l = Passed (is_zero child_zero) l.words l.i
+
+abbrev pub decreases-loop-i : goal.decreases-loop-i
+decreases-loop-i l = length l.words - l.i

@@ -1,0 +1,10 @@
+-- 6 for a root past the last node; else what is said of the reachable nodes.
+use Rattle.walks.proofs.Asking.{root_out, root_in}
+use Rattle.questions.proofs.Sharing.{shared_said}
+use Rattle.questions.proofs.lambdas.shares_in.Goals as goal
+
+pub returns-then-root-c : goal.returns-then-root-c
+returns-then-root-c c = search root_out
+
+pub returns : goal.returns
+returns c = search (root_in, shared_said)

@@ -1,0 +1,9 @@
+-- 6 for a root past the last node; else what the loop says.
+use Rattle.walks.proofs.Asking.{root_out, root_in}
+use Rattle.questions.proofs.vars.has_var_in.Goals as goal
+
+pub returns-then-root-c : goal.returns-then-root-c
+returns-then-root-c c = search root_out
+
+pub returns : goal.returns
+returns c = search root_in

@@ -1,0 +1,6 @@
+-- Two bytes, the first of which counts 256 times.
+use Rattle.sheet_reading.proofs.Numbers.{short_is}
+use Rattle.sheet_reading.proofs.bytes.short.Goals as goal
+
+pub returns : goal.returns
+returns c = search short_is

@@ -1,0 +1,6 @@
+-- Two halves, the first of which counts 65,536 times.
+use Rattle.sheet_reading.proofs.Numbers.{word_is}
+use Rattle.sheet_reading.proofs.bytes.word.Goals as goal
+
+pub returns : goal.returns
+returns c = search word_is
