@@ -1,5 +1,5 @@
 -- The row of a node, by its kind: where its children's rows are joined, that is what the node takes.
-use Prim.Native.Nat.{ℕ, ◌+◌}
+use Prim.Native.Nat.{ℕ}
 use mathlib.Core.Path.{◌≡◌, refl, sym, ap, ◌∙◌, subst}
 use mathlib.Core.Bool.{Bool, true, false, not, ◌&&◌, ◌||◌, xor}
 use mathlib.Core.List.{List, [], ◌∷◌, ◌++◌, map}

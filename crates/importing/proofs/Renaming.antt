@@ -10,7 +10,7 @@ use lib.Dec.{eqb, ltb}
 use borrow.Author.Tests.{lt-ltb, ltb-true}
 use Rattle.words.specs.Words.{bit}
 use Rattle.types.specs.Kind.{body_count}
-use Rattle.types.specs.Node.{Field, field, primitive, list, lambda, attrset, named, Tag, members, bound, var, neg, form, node, tag, kind, Data, data_of, field_names, names, body, below, matched, linked, rising, well}
+use Rattle.types.specs.Node.{Field, field, primitive, list, lambda, attrset, named, Tag, members, bound, var, neg, form, node, kind, Data, data_of, field_names, names, body, below, matched, linked, rising, well}
 use Rattle.types.specs.Arena.{absent}
 use Rattle.types.proofs.Tests.{true_false, and_true, both, neither}
 use Rattle.types.proofs.Lists.{below_more}

@@ -11,11 +11,11 @@ use lib.ListN.{length, get_or, take}
 use lib.Seq.{get_or-take, length-take-le, ext_get_or}
 use borrow.Author.Tests.{eqb-true}
 use Rattle.words.specs.declared.Layout.TheVariants as layout
-use Rattle.words.specs.Words.{bit, head_word, field_word, field_name, child}
+use Rattle.words.specs.Words.{bit, head_word, field_word, field_name}
 use Rattle.words.specs.Theorems.{FieldMade}
 use Rattle.words.proofs.Words.{field_made}
 use Rattle.types.specs.Kind.{disc, body_count}
-use Rattle.types.specs.Node.{positive, negative, Field, field, primitive, list, lambda, attrset, named, Tag, members, bound, var, neg, form, node, children, kind, data_of, field_names, names, child_words, child_words_in, body, head_of, encode, encode_in, below}
+use Rattle.types.specs.Node.{positive, negative, Field, field, primitive, list, lambda, attrset, named, Tag, members, bound, var, neg, form, node, kind, data_of, field_names, names, child_words, child_words_in, body, head_of, encode, encode_in, below}
 use Rattle.types.specs.Arena.{absent}
 use Rattle.types.proofs.Tests.{true_false, neither}
 use Rattle.types.proofs.Lists.{below_cons}

@@ -139,20 +139,6 @@ module _ {w s : List ℕ} {c : Counters} {number : ℕ} {items : List ℕ} {coun
   pub closing_gathers : Gathering w s c number ms
   closing_gathers = record { lent = C.lent; side = C.side; kind_is = C.kind_is; low = ap (below c.nodes) e ∙ C.low }
 
-  -- the kind by name: a list is a union or an intersection
-  pub as_union : number ≡ 7 → Gathering w s c 7 ms
-  as_union q = subst (λ (k : ℕ). Gathering w s c k ms) q closing_gathers
-
-  no_union : (number ≡ 7 → ⊥) → number ≡ 8
-  no_union f = go C.side C.kind_is
-    where
-      go : (k : Polarity) → number ≡ disc (kind (members k)) → number ≡ 8
-      go positive q = absurd (f q)
-      go negative q = q
-
-  pub as_intersection : (number ≡ 7 → ⊥) → Gathering w s c 8 ms
-  as_intersection f = subst (λ (k : ℕ). Gathering w s c k ms) (no_union f) closing_gathers
-
   -- what is said of the members is said of the items in use
   answered : {w' s' : List ℕ} {r : Closed} → ((table : ℕ) (a : Arena) (k : Polarity) (first : Job) → Holds table w s c a → number ≡ disc (kind (members k))
       → ClosesTo w s c w' s' r (gather (length w) (length s) k first ms a) (first a)) → Closes w s c number items count w' s' r
@@ -168,12 +154,6 @@ module _ {w s : List ℕ} {c : Counters} {number : ℕ} {items : List ℕ} {coun
         done (stands n H
         ∙ ap (reply_of w s c) (sym (gather_decided (length w) (length s) k first ms a (decided_if k a ms n F.0 F.1) ∙ intern_there (length w) (length s) table (node (bound (opposite k)) []) a H.good n B))))
 
-    closed_open : d ≡ decision.Open → {w' s' : List ℕ} {r : Closed} → ClosesOpen w s c number ms w' s' r → Closes w s c number items count w' s' r
+    pub closed_open : d ≡ decision.Open → {w' s' : List ℕ} {r : Closed} → ClosesOpen w s c number ms w' s' r → Closes w s c number items count w' s' r
     closed_open p {w'} {s'} {r} O = answered (λ table a k first H q.
         subst (λ (x : Out (ℕ × Arena)). ClosesTo w s c w' s' r x (first a)) (sym (gather_open (length w) (length s) k first ms a (D.not p table a k H q))) (O.is table a k first H q))
-
-    pub closed_union : d ≡ decision.Open → number ≡ 7 → {w' s' : List ℕ} {r : Closed} → ClosesOpen w s c 7 ms w' s' r → Closes w s c number items count w' s' r
-    closed_union p q {w'} {s'} {r} O = closed_open p (subst (λ (k : ℕ). ClosesOpen w s c k ms w' s' r) (sym q) O)
-
-    pub closed_intersection : d ≡ decision.Open → (number ≡ 7 → ⊥) → {w' s' : List ℕ} {r : Closed} → ClosesOpen w s c 8 ms w' s' r → Closes w s c number items count w' s' r
-    closed_intersection p f {w'} {s'} {r} O = closed_open p (subst (λ (k : ℕ). ClosesOpen w s c k ms w' s' r) (sym (no_union f)) O)

@@ -10,7 +10,7 @@ use lib.Seq.{length-take-le, take-suc, take-suc-set}
 use Rattle.words.specs.Words.{HeadFits, head_word}
 use Rattle.types.specs.Kind.{disc}
 use Rattle.types.specs.Node.{Polarity, members, node, kind, child_words_in, head_of, encode, encode_in, below, IsNode}
-use Rattle.types.specs.Arena.{Arena, at}
+use Rattle.types.specs.Arena.{Arena}
 use Rattle.types.specs.Memory.{Holds}
 use Rattle.types.specs.declared.Counters.{Counters}
 use Rattle.types.proofs.KindNumbers.{disc_small}

@@ -67,9 +67,9 @@ fn decider(words: &[u32], starts: &[u32], c: Counters, kind: u32, members: &[u32
 }
 
 // The words of a node: its head, then the members of the list.
-fn node_words(head: u32, list: Members) -> [u32; 65]
-    requires { Room list.items list.count }
-    ensures { NodeWords head list.items list.count result }
+fn node_words(head: u32, list: &Members) -> [u32; 65]
+    requires { Room list.now.items list.now.count }
+    ensures { NodeWords head list.now.items list.now.count result }
 {
     let mut node = [0u32; 65];
     node[0] = head;
@@ -87,14 +87,14 @@ pub fn intern_list(
     starts: &mut [u32],
     c: Counters,
     kind: u32,
-    list: Members,
+    list: &Members,
     near: u32,
     filter: &mut [u64; 2048],
 ) -> Interned
-    requires filled { Filled words.old starts.old c kind list.items list.count }
+    requires filled { Filled words.old starts.old c kind list.now.items list.now.count }
     requires near_lt_nodes { near < c.nodes }
     requires covers_lent { CoversLent words.old starts.old c filter.old }
-    ensures interns_list { InternsList words.old starts.old c kind list.items list.count words.new
+    ensures interns_list { InternsList words.old starts.old c kind list.now.items list.now.count words.new
         starts.new result }
     ensures covers_after { CoversAfter words.new starts.new result filter.new }
 {
@@ -110,14 +110,14 @@ fn finish(
     starts: &mut [u32],
     c: Counters,
     kind: u32,
-    list: Members,
+    list: &Members,
     near: u32,
     filter: &mut [u64; 2048],
 ) -> Closed
-    requires listing { Listing words.old starts.old c kind list.items list.count }
+    requires listing { Listing words.old starts.old c kind list.now.items list.now.count }
     requires near_lt_nodes { near < c.nodes }
     requires covers_lent { CoversLent words.old starts.old c filter.old }
-    ensures finishes { Finishes words.old starts.old c kind list.items list.count words.new
+    ensures finishes { Finishes words.old starts.old c kind list.now.items list.now.count words.new
         starts.new result }
     ensures covers_closed { CoversClosed words.new starts.new c result filter.new }
 {
@@ -130,7 +130,9 @@ fn finish(
     Closed::Done(intern_list(words, starts, c, kind, list, near, filter))
 }
 
-// What stands for the list that the members make, if none of them decides it.
+// What stands for the list that the members make, if none of them decides it. It is kept, with its lists, out of the frame of
+// the recursion that calls this.
+#[inline(never)]
 fn close_open(
     words: &mut [u32],
     starts: &mut [u32],
@@ -157,12 +159,11 @@ fn close_open(
         return Closed::Done(Interned::Refused(8));
     };
     list.count = count;
-    finish(words, starts, c, kind, list, near, filter)
+    finish(words, starts, c, kind, &list, near, filter)
 }
 
 // What becomes of a member list of a kind: a member that decides it; else its members, spliced one level, without the neutral
-// element and without repeats: one stands for itself, several are interned, and a 65th is refused. Two calls of `close_open`
-// keep it, and its lists, out of the frame of the recursion that calls this.
+// element and without repeats: one stands for itself, several are interned, and a 65th is refused.
 pub fn close_list(
     words: &mut [u32],
     starts: &mut [u32],
@@ -185,8 +186,5 @@ pub fn close_list(
     if let Decision::By(n) = decided {
         return Closed::Done(Interned::Node(n, c));
     }
-    if kind == Head::UNION {
-        return close_open(words, starts, c, Head::UNION, members, near, filter);
-    }
-    close_open(words, starts, c, Head::INTERSECTION, members, near, filter)
+    close_open(words, starts, c, kind, members, near, filter)
 }

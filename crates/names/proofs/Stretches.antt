@@ -10,7 +10,7 @@ use lib.Seq.{length-take-le, take_at, drop_at, drop-cons, drop-drop}
 use lib.Dec.{ltb}
 use borrow.Author.Tests.{lt-ltb, le-ltb, ltb-true}
 use Rattle.types.specs.Out.{Out, ok, refuse, required}
-use Rattle.names.specs.Table.{Name, table, split, names_of, name_text}
+use Rattle.names.specs.Table.{Name, table, split, names_of}
 use Rattle.names.specs.Inner.{Lies}
 use Rattle.names.specs.Reply.{table_reply, table_out, stretch, name_reply}
 use Rattle.names.specs.Theorems.{IsText, StretchIsText}

@@ -1,8 +1,8 @@
 -- Where the quick tests of a body, and of a node, are true, there is no fault.
-use Prim.Native.Nat.{ℕ, zero, suc, ◌-◌}
+use Prim.Native.Nat.{ℕ, ◌-◌}
 use mathlib.Core.Path.{◌≡◌, refl, sym, ap, subst, ◌∙◌}
 use mathlib.Core.Bool.{Bool, true, false, not, ◌&&◌, ◌||◌}
-use mathlib.Core.List.{List, [], ◌∷◌, map}
+use mathlib.Core.List.{List, ◌∷◌, map}
 use native.Mathlib.Omega.{arith}
 use lib.ListN.{length, get_or, take, drop, length-drop}
 use lib.Seq.{take_all}
@@ -11,10 +11,10 @@ use borrow.Author.Tests.{eqb-true, eq-eqb, leb-true, not-true, not-false}
 use Rattle.words.specs.Words.{bit, child, field_optional, head_kind, head_open, head_dynamic, head_zero, head_count}
 use Rattle.types.specs.Kind.{kind_of, body_count, code, children}
 use Rattle.types.specs.Node.{below}
-use Rattle.types.specs.Fault.{body_fits_in, each_zero, head_fits, fault}
+use Rattle.types.specs.Fault.{body_fits_in, head_fits, fault}
 use Rattle.types.proofs.Tests.{and_true, both}
 use Rattle.node_faults.specs.Inner.{within, count_fits, body_fault, kind_fault, CleanChildren, CleanFields, Clean, CleanBody}
-use Rattle.node_faults.proofs.Passing.{Test, all_meet, all_join, is_below}
+use Rattle.node_faults.proofs.Passing.{all_join, is_below}
 use Rattle.node_faults.proofs.Heads.{head_all}
 use Rattle.node_faults.proofs.Bodies.{children_all, fields_all, name_good}
 use Rattle.node_faults.proofs.Answers.{fault_kind}

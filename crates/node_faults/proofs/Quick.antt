@@ -1,7 +1,7 @@
 -- The loops of the quick tests: the words passed have no fault.
 use Prim.Native.Nat.{ℕ, ◌+◌, ◌-◌, ◌*◌, ◌^◌, ◌<◌, ◌≤◌}
 use mathlib.Core.Path.{◌≡◌, refl, sym, ap, ◌∙◌}
-use mathlib.Core.Bool.{Bool, true, false}
+use mathlib.Core.Bool.{true, false}
 use mathlib.Core.List.{List, map}
 use native.Mathlib.Decide.{ℕ_discrete}
 use native.Mathlib.Omega.{arith}
@@ -13,7 +13,7 @@ use mir.Val.{Fits}
 use Rattle.words.specs.declared.Layout.TheVariants as layout
 use Rattle.words.specs.Words.{child, child_zero, field_name, field_zero}
 use Rattle.words.proofs.Words.{child_zero_made, child_of_fields, field_bounded}
-use Rattle.types.specs.Node.{below, rising}
+use Rattle.types.specs.Node.{rising}
 use Rattle.types.proofs.Tests.{true_false}
 use Rattle.node_faults.specs.Inner.{CleanChildren, CleanFields}
 use Rattle.node_faults.proofs.Passing.{Passed, is_zero, is_below, passed_start, zero_more, zero_done, below_more, below_done}

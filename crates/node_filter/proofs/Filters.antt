@@ -1,5 +1,5 @@
 -- Bits in the filter: they stay, those of every node are set, and a node of which one isn't is found nowhere.
-use Prim.Native.Nat.{ℕ, ◌+◌, ◌/◌, ◌<◌, ◌≤◌}
+use Prim.Native.Nat.{ℕ, ◌+◌, ◌<◌, ◌≤◌}
 use mathlib.Core.Path.{◌≡◌, refl, sym, ap, ◌∙◌, subst}
 use mathlib.Core.Bool.{Bool, true, false, not}
 use mathlib.Core.List.{List, [], ◌∷◌}
@@ -18,18 +18,17 @@ use Rattle.types.specs.declared.Counters.{Counters}
 use Rattle.types.proofs.Tests.{true_false, same_true}
 use Rattle.types.proofs.Decodes.{well_parts}
 use Rattle.types.proofs.Growth.{at_new, at_grow}
-use Rattle.types.proofs.Sound.{find_at, at_find, at_formed}
+use Rattle.types.proofs.Sound.{find_at, at_find}
 use Rattle.types.proofs.Memories.{unique}
-use Rattle.node_store.specs.Inner.Stored.{Lent, InRange, NodeAt, Sought, IsThere, Searched, FoundIn, found_at}
+use Rattle.node_store.specs.Inner.Stored.{Lent, InRange, NodeAt, Sought, IsThere, FoundIn}
 use Rattle.node_store.specs.Inner.Added.{Fresh, Absent, Interns}
 use Rattle.node_store.specs.Intern.{has_room, intern, left}
-use Rattle.node_store.specs.declared.stored.Found.{Found}
 use Rattle.node_store.specs.declared.stored.Found.TheVariants as found
 use Rattle.node_store.specs.declared.added.Interned.{Interned}
 use Rattle.node_store.specs.declared.added.Interned.TheVariants as interned
 use Rattle.node_store.proofs.Additions.{fresh_searched, intern_stored, intern_full, intern_new, finished}
 use Rattle.node_store.proofs.Interning.{intern_holds}
-use Rattle.node_filter.specs.Inner.Hash.{hash_of, bit_of, BitIn}
+use Rattle.node_filter.specs.Inner.Hash.{hash_of, BitIn}
 use Rattle.node_filter.specs.Inner.Filter.{HasBits, MayHave, Sets, Covers, CoversLent, CoversAfter}
 
 -- ---- the bits of one hash

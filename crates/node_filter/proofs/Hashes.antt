@@ -1,11 +1,11 @@
 -- The hash of a node's words, from the last word to the first, and its bits.
-use Prim.Native.Nat.{ℕ, suc, ◌+◌, ◌*◌, ◌-◌, ◌/◌, ◌%◌, ◌<◌, ◌≤◌}
+use Prim.Native.Nat.{ℕ, suc, ◌-◌, ◌<◌, ◌≤◌}
 use mathlib.Core.Path.{◌≡◌, sym, ap, ◌∙◌}
 use mathlib.Core.List.{List}
 use native.Mathlib.Omega.{arith}
 use lib.ListN.{length, get_or, drop}
 use lib.Seq.{drop-cons, drop-length}
-use Rattle.node_filter.specs.Inner.Hash.{mixed, hash_of, bit_of, BitIn}
+use Rattle.node_filter.specs.Inner.Hash.{mixed, hash_of}
 
 -- the words from i on are in the hash
 pub record Hashing (ws : List ℕ) (h i : ℕ) : Type 0 where

@@ -6,7 +6,6 @@ use mathlib.Core.List.{List, [], ◌∷◌}
 use mathlib.Core.Option.{Option, none, some}
 use native.Mathlib.Omega.{arith}
 use lib.ListN.{length, get_or}
-use Rattle.types.specs.Same.{same}
 use Rattle.words.specs.Words.{child}
 use Rattle.types.specs.Node.{Node, encode, formed, children}
 use Rattle.types.specs.Arena.{Arena, at, find, Ext, here}

@@ -9,7 +9,7 @@ use lib.Dec.{eqb}
 use borrow.Author.Tests.{eqb-true}
 use Rattle.types.specs.Kind as kinds
 use Rattle.types.specs.Kind.{disc}
-use Rattle.types.specs.Node.{named, tag, kind, children, Node}
+use Rattle.types.specs.Node.{tag, kind, children, Node}
 use Rattle.types.specs.Arena.{Arena, at}
 use Rattle.types.specs.Memory.{Holds}
 use Rattle.types.specs.declared.Counters.{Counters}

@@ -8,7 +8,7 @@ use lib.ListN.{length, get_or}
 use borrow.Author.Tests.{lt-ltb}
 use Rattle.words.specs.Words.{head_word}
 use Rattle.types.specs.Kind.{body_count}
-use Rattle.types.specs.Node.{var, node, tag, child_words_in, head_of, encode, encode_in, well, well_in}
+use Rattle.types.specs.Node.{var, tag, child_words_in, head_of, encode, encode_in, well, well_in}
 use Rattle.types.specs.Arena.{Arena, at}
 use Rattle.types.specs.Memory.{Holds}
 use Rattle.types.specs.Reply.{reply_of}

@@ -111,7 +111,7 @@ fn close_sorted(
         starts,
         c,
         kind,
-        Members {
+        &Members {
             items: sorted,
             count,
         },

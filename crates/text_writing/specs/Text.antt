@@ -1,6 +1,6 @@
 -- The text of a type, as the Rust's `write_ty` writes it (document 001): what begins a node's text, what stands before each child, which
 -- children stand in parentheses, what ends it. How names are spelled is a parameter (02, A1): bare, it is the Rust's text.
-use Rattle.std.specs.Prelude.{ℕ, zero, suc, Bool, true, false, List, [], ◌∷◌, ◌++◌, length, get_or}
+use Rattle.std.specs.Prelude.{ℕ, zero, suc, Bool, false, List, [], ◌∷◌, ◌++◌, length, get_or}
 use Rattle.types.specs.Bytes.{bytes}
 use Rattle.types.specs.Tyvar.{tyvar_name}
 use Rattle.primitive.specs.Primitive.{primitive_text}

@@ -9,7 +9,7 @@ use lib.Dec.{ltb}
 use borrow.Author.Tests.{eqb-true, ltb-true}
 use Rattle.words.specs.Words.{bit}
 use Rattle.types.specs.Kind.{body_count}
-use Rattle.types.specs.Node.{Polarity, positive, negative, Field, field, Tag, members, bound, var, neg, form, primitive, list, lambda, attrset, named, Node, node, field_names, names, tag, children, child_words, child_words_in, formed, rising}
+use Rattle.types.specs.Node.{Polarity, positive, negative, Field, field, Tag, members, bound, var, neg, form, primitive, list, lambda, attrset, named, Node, node, field_names, names, tag, children, child_words, child_words_in, rising}
 use Rattle.types.specs.Arena.{Arena, at, sound}
 use Rattle.types.specs.Places.{self}
 use Rattle.types.specs.Places as places

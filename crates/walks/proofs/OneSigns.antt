@@ -6,7 +6,7 @@ use mathlib.Core.List.{List}
 use native.Mathlib.Decide.{dec_lt}
 use native.Mathlib.Omega.{arith}
 use Rattle.types.specs.Node.{Polarity, positive, negative}
-use Rattle.types.specs.Arena.{Arena, sound}
+use Rattle.types.specs.Arena.{Arena}
 use Rattle.types.specs.Places.{opposite, Place, Occurs}
 use Rattle.types.specs.Memory.{Holds}
 use Rattle.types.specs.declared.Counters.{Counters}

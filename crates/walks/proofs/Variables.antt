@@ -9,7 +9,7 @@ use lib.ListN.{length}
 use lib.Dec.{eqb}
 use borrow.Author.Tests.{eqb-true}
 use Rattle.types.specs.Kind.{body_count}
-use Rattle.types.specs.Node.{Tag, var, Node, node, tag, children, child_words_in, below, formed, formed_in, rising}
+use Rattle.types.specs.Node.{Tag, var, Node, node, tag, children, child_words_in, below, formed_in, rising}
 use Rattle.types.specs.Arena.{Arena, at, find, sound}
 use Rattle.types.proofs.Nodes.{nil, Formed, formed_parts}
 use Rattle.types.proofs.Sound.{sound_well, sound_tail, at_find}

@@ -1,4 +1,3 @@
-use Prim.Native.Nat.{◌-◌}
 use Rattle.appending.proofs.Appending.{writes_over, writes_full, copying_start, copying_more, copying_done}
 use Rattle.appending.proofs.append.Goals as goal
 

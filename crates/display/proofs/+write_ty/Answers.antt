@@ -1,6 +1,5 @@
 use Rattle.display.proofs.Printings.{prints_over, node_range, node_formed, printing_start, printing_formed, printing_child, printing_falls, printing_range, printing_more, printing_done}
 use borrow.Author.Rules.{rules}
-use Prim.Native.Nat.{◌-◌}
 use Rattle.display.proofs.+write_ty.Goals as goal
 
 pub returns-then-count-text : goal.returns-then-count-text

@@ -1,4 +1,3 @@
-use Prim.Native.Nat.{◌-◌}
 use Rattle.display.proofs.Replies.{clearing_start, clearing_more, clearing_done}
 use Rattle.display.proofs.clear.Goals as goal
 

@@ -1,4 +1,3 @@
-use Prim.Native.Nat.{◌-◌}
 use Rattle.fix_values.proofs.Checking.{checked_start, checked_behind, checked_place, checked_many, checked_broken, checked_fits, checked_more, checked_done}
 use Rattle.fix_values.proofs.check_fix.Goals as goal
 

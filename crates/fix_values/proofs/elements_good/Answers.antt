@@ -1,4 +1,3 @@
-use Prim.Native.Nat.{◌-◌}
 use Rattle.fix_values.proofs.Passing.{elements_start, elements_bad, elements_more, elements_done}
 use Rattle.fix_values.proofs.elements_good.Goals as goal
 

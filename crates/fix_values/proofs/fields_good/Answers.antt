@@ -1,4 +1,3 @@
-use Prim.Native.Nat.{◌-◌}
 use Rattle.fix_values.proofs.Passing.{passed_start, passed_bad, passed_more, passed_done, name_next}
 use Rattle.fix_values.proofs.fields_good.Goals as goal
 

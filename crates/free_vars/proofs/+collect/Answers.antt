@@ -1,7 +1,6 @@
 use Rattle.free_vars.proofs.Collections.{collect_small, collected, collect_range, collect_head, var_room, var_collected, turn_start, turn_row, turn_falls, turn_collecting, turn_more, turn_done}
 use borrow.Author.Rules.{rules}
 use borrow.Author.Rules.{rules}
-use Prim.Native.Nat.{◌-◌}
 use Rattle.free_vars.proofs.+collect.Goals as goal
 
 pub test-requires : goal.test-requires

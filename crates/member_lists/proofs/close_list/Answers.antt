@@ -1,7 +1,6 @@
--- Decided or not; the kind is given by name.
-use Rattle.member_lists.proofs.Closings.{closing_gathers, as_union, as_intersection, closed_decided, closed_union, closed_intersection}
+-- Decided or not.
+use Rattle.member_lists.proofs.Closings.{closing_gathers, closed_decided, closed_open}
 use Rattle.member_lists.proofs.Covering.{covers_member}
-use borrow.Author.Rules.{rules}
 use Rattle.member_lists.proofs.close_list.Goals as goal
 
 pub decider-decided-requires : goal.decider-decided-requires
@@ -14,13 +13,7 @@ pub returns-in-By-clause-covers_closed : goal.returns-in-By-clause-covers_closed
 returns-in-By-clause-covers_closed c = search covers_member
 
 pub close_open-requires-clause-gathering : goal.close_open-requires-clause-gathering
-close_open-requires-clause-gathering c = search as_union
-
-pub returns-then-kind-eq-UNION-clause-closes : goal.returns-then-kind-eq-UNION-clause-closes
-returns-then-kind-eq-UNION-clause-closes c = search closed_union
-
-pub close_open-requires-2-clause-gathering : goal.close_open-requires-2-clause-gathering
-close_open-requires-2-clause-gathering c = search as_intersection
+close_open-requires-clause-gathering c = search closing_gathers
 
 pub returns-clause-closes : goal.returns-clause-closes
-returns-clause-closes c = search closed_intersection
+returns-clause-closes c = search closed_open

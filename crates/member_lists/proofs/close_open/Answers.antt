@@ -1,7 +1,6 @@
 -- A 65th member, or the list.
 use Rattle.member_lists.proofs.Closings.{open_flattens, open_full, open_listing, open_finished}
 use Rattle.member_lists.proofs.Covering.{covers_full}
-use borrow.Author.Rules.{rules}
 use Rattle.member_lists.proofs.close_open.Goals as goal
 
 pub flatten-grown-requires : goal.flatten-grown-requires

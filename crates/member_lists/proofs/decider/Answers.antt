@@ -1,4 +1,3 @@
-use Prim.Native.Nat.{◌-◌}
 use Rattle.member_lists.proofs.Decisions.{undecided_start, undecided_in, undecided_hit, undecided_more, undecided_done}
 use Rattle.member_lists.proofs.decider.Goals as goal
 

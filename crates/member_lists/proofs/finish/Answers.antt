@@ -1,7 +1,6 @@
 -- None, one, several.
 use Rattle.member_lists.proofs.Closings.{finish_none, finish_one, finish_ready, finish_several}
 use Rattle.member_lists.proofs.Covering.{covers_empty, covers_member, covers_done}
-use borrow.Author.Rules.{rules}
 use Rattle.member_lists.proofs.finish.Goals as goal
 
 pub returns-then-list-eq0-clause-finishes : goal.returns-then-list-eq0-clause-finishes

@@ -1,6 +1,5 @@
 -- The head counts the members.
 use Rattle.member_lists.proofs.ListNodes.{head_fits, list_cut, list_fresh, list_interned}
-use borrow.Author.Rules.{rules}
 use Rattle.member_lists.proofs.intern_list.Goals as goal
 
 pub new-head-requires : goal.new-head-requires

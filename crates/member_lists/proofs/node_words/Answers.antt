@@ -1,4 +1,3 @@
-use Prim.Native.Nat.{◌-◌}
 use Rattle.member_lists.proofs.ListNodes.{written_start, written_more, written_done}
 use Rattle.member_lists.proofs.node_words.Goals as goal
 

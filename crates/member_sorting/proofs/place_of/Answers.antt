@@ -1,4 +1,3 @@
-use Prim.Native.Nat.{◌-◌}
 use Rattle.member_sorting.proofs.Placing.{passed_start, passed_range, passed_next, passed_found, passed_more, passed_done}
 use Rattle.member_sorting.proofs.place_of.Goals as goal
 

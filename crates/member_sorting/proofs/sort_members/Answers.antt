@@ -1,4 +1,3 @@
-use Prim.Native.Nat.{◌-◌}
 use Rattle.member_sorting.proofs.Inserting.{going_start, going_next, going_more, going_done}
 use Rattle.member_sorting.proofs.sort_members.Goals as goal
 

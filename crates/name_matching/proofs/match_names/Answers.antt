@@ -1,4 +1,3 @@
-use Prim.Native.Nat.{◌-◌}
 use Rattle.name_matching.proofs.Merging.{read_start, left_passed, right_passed, read_next}
 use Rattle.name_matching.proofs.match_names.Goals as goal
 

@@ -1,4 +1,3 @@
-use Prim.Native.Nat.{◌-◌}
 use Rattle.names.specs.Inner.{name_end}
 use Rattle.names.proofs.Checking.{stage_long, stage_start, stage_full, stage_bad, stage_fits, stage_more, stage_odd, stage_done}
 use borrow.Author.Rules.{rules}

@@ -1,4 +1,3 @@
-use Prim.Native.Nat.{◌-◌}
 use Rattle.names.proofs.Comparing.{level_start, level_less, level_greater, level_more, level_longer, level_shorter, level_done}
 use Rattle.names.proofs.compare.Goals as goal
 

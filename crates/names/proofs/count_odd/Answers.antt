@@ -1,4 +1,3 @@
-use Prim.Native.Nat.{◌-◌}
 use Rattle.names.proofs.OddBytes.{count_start, count_fits, count_more, count_done}
 use Rattle.names.proofs.count_odd.Goals as goal
 

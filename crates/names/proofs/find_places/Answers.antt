@@ -1,4 +1,3 @@
-use Prim.Native.Nat.{◌-◌}
 use Rattle.names.specs.Inner.{name_end}
 use Rattle.names.proofs.Places.{placing_start, placing_room, placing_more, placing_end}
 use borrow.Author.Rules.{rules}

@@ -1,4 +1,3 @@
-use Prim.Native.Nat.{◌-◌}
 use Rattle.names.specs.Inner.{name_end}
 use Rattle.names.proofs.Walking.{walk_start, walk_here, walk_more, walk_end}
 use borrow.Author.Rules.{rules}

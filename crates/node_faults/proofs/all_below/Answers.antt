@@ -1,4 +1,3 @@
-use Prim.Native.Nat.{◌-◌}
 use Rattle.node_faults.proofs.Quick.{children_stopped, children_start, children_more, children_done}
 use Rattle.node_faults.proofs.all_below.Goals as goal
 

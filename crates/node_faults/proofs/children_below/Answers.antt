@@ -1,4 +1,3 @@
-use Prim.Native.Nat.{◌-◌}
 use Rattle.node_faults.proofs.Passing.{passed_start, below_more, below_fails, below_done}
 use Rattle.node_faults.proofs.children_below.Goals as goal
 

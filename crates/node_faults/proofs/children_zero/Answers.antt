@@ -1,4 +1,3 @@
-use Prim.Native.Nat.{◌-◌}
 use Rattle.node_faults.proofs.Passing.{passed_start, zero_more, zero_fails, zero_done}
 use Rattle.node_faults.proofs.children_zero.Goals as goal
 

@@ -1,4 +1,3 @@
-use Prim.Native.Nat.{◌-◌}
 use Rattle.node_faults.proofs.Quick.{name_room, fields_stopped, fields_start, fields_more, fields_done}
 use Rattle.node_faults.proofs.fields_clean.Goals as goal
 

@@ -1,4 +1,3 @@
-use Prim.Native.Nat.{◌-◌}
 use Rattle.node_faults.proofs.Rising.{risen_start, risen_more, risen_fails, risen_done}
 use Rattle.node_faults.proofs.names_rise.Goals as goal
 

@@ -1,6 +1,5 @@
 use Rattle.node_filter.proofs.Filters.{covers_kept, covers_added}
 use Rattle.node_store.proofs.Additions.{fresh_searched, number_fits, answer_stored, nothing_there}
-use borrow.Author.Rules.{rules}
 use Rattle.node_filter.proofs.intern_filtered.Goals as goal
 
 pub find_filtered-found-requires-clause-searched : goal.find_filtered-found-requires-clause-searched

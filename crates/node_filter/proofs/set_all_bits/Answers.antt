@@ -1,4 +1,3 @@
-use Prim.Native.Nat.{◌-◌}
 use Rattle.node_filter.proofs.Filters.{first_none, first_there, first_more, first_all}
 use Rattle.node_filter.proofs.set_all_bits.Goals as goal
 

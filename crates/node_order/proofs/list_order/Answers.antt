@@ -1,4 +1,3 @@
-use Prim.Native.Nat.{◌-◌}
 use Rattle.node_order.proofs.Comparing.{level_start, level_told, level_more, level_longer, level_shorter, level_done}
 use Rattle.node_order.proofs.list_order.Goals as goal
 

@@ -1,4 +1,3 @@
-use Prim.Native.Nat.{◌-◌}
 use Rattle.node_order.proofs.Optionals.{skipped_start, skipped_more, skipped_found, skipped_all}
 use Rattle.node_order.proofs.next_optional.Goals as goal
 

@@ -1,4 +1,3 @@
-use Prim.Native.Nat.{◌-◌}
 use Rattle.node_order.proofs.Optionals.{facing_start, facing_told, facing_more, facing_longer, facing_shorter, facing_done}
 use Rattle.node_order.proofs.optional_order.Goals as goal
 

@@ -1,4 +1,3 @@
-use Prim.Native.Nat.{◌-◌}
 use Rattle.recursion.proofs.TakingBack.{clearing_start, clearing_more, clearing_less, clearing_done}
 use Rattle.recursion.proofs.take_back.Goals as goal
 

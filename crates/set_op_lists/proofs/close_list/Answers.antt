@@ -1,6 +1,5 @@
 -- The kind by name.
 use Rattle.set_op_lists.proofs.Closing.{as_union, as_intersection, closed_union, closed_intersection}
-use borrow.Author.Rules.{rules}
 use Rattle.set_op_lists.proofs.close_list.Goals as goal
 
 pub close_sorted-requires-clause-filled : goal.close_sorted-requires-clause-filled

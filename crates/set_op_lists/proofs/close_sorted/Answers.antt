@@ -2,7 +2,6 @@
 use mathlib.Core.Path.{refl}
 use Rattle.node_filter.proofs.Filters.{covers_kept}
 use Rattle.set_op_lists.proofs.Closing.{closing_cut, closing_sorts, closed_one, sorted_ready, closed_several}
-use borrow.Author.Rules.{rules}
 use Rattle.set_op_lists.proofs.close_sorted.Goals as goal
 
 pub slice_bounds-sort_members-end : goal.slice_bounds-sort_members-end

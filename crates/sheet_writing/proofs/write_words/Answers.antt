@@ -1,4 +1,3 @@
-use Prim.Native.Nat.{◌-◌}
 use Rattle.sheet_writing.proofs.Writing.{turn_start, turn_more, turn_done}
 use Rattle.sheet_writing.proofs.write_words.Goals as goal
 

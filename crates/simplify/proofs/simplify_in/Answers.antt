@@ -7,10 +7,6 @@ use Rattle.simplify.proofs.Sequences.{first_refused, first_room, first_done}
 use borrow.Author.Rules.{rules}
 use Rattle.simplify.proofs.simplify_in.Goals as goal
 
-
-
-
-
 pub returns-in_default : goal.returns-in_default
 returns-in_default c = first_refused c.requires c.simplify_once-r.ensures.simplifies_once (told_on interned.Refused interned_out (λ e. refl) c.in_default.is c.refusal.ensures)
 

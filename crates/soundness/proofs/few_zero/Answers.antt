@@ -1,4 +1,3 @@
-use Prim.Native.Nat.{◌-◌}
 use Rattle.soundness.proofs.Zeros.{ones_start, ones_more, ones_done}
 use Rattle.soundness.proofs.few_zero.Goals as goal
 

@@ -1,4 +1,3 @@
-use Prim.Native.Nat.{◌-◌}
 use Rattle.soundness.proofs.Zeros.{four_start, four_more, four_done}
 use Rattle.soundness.proofs.four_zero.Goals as goal
 

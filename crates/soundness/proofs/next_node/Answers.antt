@@ -1,6 +1,5 @@
 -- What a node must keep is tested in turn: it ends within the words in use, has no fault, and is no node read before.
 use Rattle.soundness.proofs.Checks.{count_fits, next_end, next_long, next_fault, next_searched, next_covered, next_twice, next_good, passed_words, passed_starts, none_set, node_set}
-use borrow.Author.Rules.{rules}
 use Rattle.soundness.proofs.next_node.Goals as goal
 
 pub returns-then-at-used-clause-next : goal.returns-then-at-used-clause-next

@@ -1,4 +1,3 @@
-use Prim.Native.Nat.{◌-◌}
 use Rattle.soundness.proofs.Checks.{reading_start, reading_marked, reading_more, in_starts, start_fits, more_fits, bad_start, bad_node, sum_fits, upto_done}
 use Rattle.soundness.proofs.nodes_sound.Goals as goal
 

@@ -1,4 +1,3 @@
-use Prim.Native.Nat.{◌-◌}
 use Rattle.spelling.proofs.Identifiers.{identifier_none, first_not, first_passed, byte_not, byte_passed, all_passed}
 use Rattle.spelling.proofs.identifier.Goals as goal
 

@@ -1,4 +1,3 @@
-use Prim.Native.Nat.{◌-◌}
 use Rattle.appending.proofs.SpelledNames.{escaping_start, escaping_more, escaping_done}
 use Rattle.appending.proofs.spelled.write_escaped.Goals as goal
 

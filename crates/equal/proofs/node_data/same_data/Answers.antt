@@ -1,6 +1,5 @@
 -- Lengths, heads, and then a number of the nodes' own or their fields.
 use Rattle.equal.proofs.SameNodes.{lengths_differ, heads_differ, own_told, fields_told, fields_inside, fields_inside_right, fields_as_many}
-use borrow.Author.Rules.{rules}
 use Rattle.equal.proofs.node_data.same_data.Goals as goal
 
 pub returns-then-a-b : goal.returns-then-a-b

@@ -1,4 +1,3 @@
-use Prim.Native.Nat.{◌-◌}
 use Rattle.equal.proofs.Fields.{fields_start, fields_other, fields_more, fields_done}
 use Rattle.equal.proofs.node_data.same_fields.Goals as goal
 

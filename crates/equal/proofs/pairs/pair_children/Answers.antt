@@ -1,4 +1,3 @@
-use Prim.Native.Nat.{◌-◌}
 use Rattle.equal.proofs.Pairing.{giving_start, giving_right, giving_fit, giving_clash, giving_more, giving_done}
 use Rattle.equal.proofs.pairs.pair_children.Goals as goal
 

@@ -1,4 +1,3 @@
-use Prim.Native.Nat.{◌-◌}
 use Rattle.fitting.proofs.Joining.{joining_from, joining_start, joining_here, joining_there, joining_more, joining_done}
 use Rattle.fitting.proofs.joined.join.Goals as goal
 

@@ -1,4 +1,3 @@
-use Prim.Native.Nat.{◌-◌}
 use Rattle.fitting.proofs.Joining.{gathering_start, gathering_row, gathering_more, gathering_done}
 use Rattle.fitting.proofs.joined.joined_row.Goals as goal
 

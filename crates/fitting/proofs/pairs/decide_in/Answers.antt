@@ -1,4 +1,3 @@
-use Prim.Native.Nat.{◌-◌}
 use Rattle.fitting.proofs.Deciding.{width_few, deciding_start, deciding_here, deciding_against, deciding_from, deciding_room, deciding_next, deciding_more, deciding_long, root_cast, last_there, last_cast, deciding_pair, deciding_done}
 use Rattle.fitting.proofs.pairs.decide_in.Goals as goal
 

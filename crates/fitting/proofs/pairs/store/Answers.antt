@@ -1,4 +1,3 @@
-use Prim.Native.Nat.{◌-◌}
 use Rattle.fitting.proofs.Pairing.{written_start, written_place, written_here, written_there, written_more, written_long, written_done}
 use Rattle.fitting.proofs.pairs.store.Goals as goal
 

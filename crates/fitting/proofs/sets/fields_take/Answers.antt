@@ -1,4 +1,3 @@
-use Prim.Native.Nat.{◌-◌}
 use Rattle.fitting.proofs.SetFits.{taking_start, taking_inside, taking_can, taking_fails, taking_more, taking_done}
 use Rattle.fitting.proofs.sets.fields_take.Goals as goal
 

@@ -1,4 +1,3 @@
-use Prim.Native.Nat.{◌-◌}
 use Rattle.fitting.proofs.SetFits.{missing_start, missing_inside, missing_fails, missing_more, missing_done}
 use Rattle.fitting.proofs.sets.none_missing.Goals as goal
 

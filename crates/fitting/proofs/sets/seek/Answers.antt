@@ -1,4 +1,3 @@
-use Prim.Native.Nat.{◌-◌}
 use Rattle.fitting.proofs.Seeking.{sought_start, sought_here, sought_more, sought_done}
 use Rattle.fitting.proofs.sets.seek.Goals as goal
 

@@ -1,4 +1,3 @@
-use Prim.Native.Nat.{◌-◌}
 use Rattle.fitting.proofs.Held.{elements_start, element_pair, element_fails, element_more, elements_done}
 use Rattle.fitting.proofs.taken.list_takes.Goals as goal
 

@@ -1,4 +1,3 @@
-use Prim.Native.Nat.{◌-◌}
 use Rattle.fitting.proofs.Taking.{taking_start, taking_node, taking_here, taking_value, taking_small, taking_room, taking_next, taking_more, taking_done}
 use Rattle.fitting.proofs.taken.taken_row.Goals as goal
 

@@ -1,4 +1,3 @@
-use Prim.Native.Nat.{◌-◌}
 use Rattle.importing.proofs.FieldWords.{passed_start, passed_lacks, passed_more, passed_all}
 use Rattle.importing.proofs.fields.lacks_one.Goals as goal
 

@@ -1,4 +1,3 @@
-use Prim.Native.Nat.{◌-◌}
 use Rattle.importing.proofs.FieldWords.{turn_start, turn_in, turn_known, turn_more, turn_done}
 use Rattle.importing.proofs.fields.rename_fields.Goals as goal
 

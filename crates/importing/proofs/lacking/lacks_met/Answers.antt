@@ -1,7 +1,6 @@
 -- Two cases: the set has the node, or not.
 use Rattle.walks.proofs.Marks.{root_small, root_fits}
 use Rattle.importing.proofs.Searching.{node_there, unmet, met_told}
-use borrow.Author.Rules.{rules}
 use Rattle.importing.proofs.lacking.lacks_met.Goals as goal
 
 pub overflow_cast-n : goal.overflow_cast-n

@@ -1,4 +1,3 @@
-use Prim.Native.Nat.{◌-◌}
 use Rattle.importing.proofs.Searching.{searching_start, searching_here, searching_long, searching_next, searching_found, searching_more, searching_done}
 use Rattle.importing.proofs.lacking.lacks_name.Goals as goal
 

@@ -1,6 +1,5 @@
 -- Two cases: a node without children, and one whose children are exchanged and whose fields are renamed.
 use Rattle.importing.proofs.InternImported.{import_here, import_head, import_few, import_fits, leaf_fresh, leaf_imported, import_exchanging, import_renaming, import_prefix, import_length, import_fresh, imported}
-use borrow.Author.Rules.{rules}
 use Rattle.importing.proofs.nodes.intern_imported.Goals as goal
 
 pub node_at-node-requires : goal.node_at-node-requires

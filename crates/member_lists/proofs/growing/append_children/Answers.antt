@@ -1,4 +1,3 @@
-use Prim.Native.Nat.{◌-◌}
 use Rattle.member_lists.proofs.Copying.{appended_start, appended_next, appended_full, appended_more, appended_done}
 use Rattle.member_lists.proofs.growing.append_children.Goals as goal
 

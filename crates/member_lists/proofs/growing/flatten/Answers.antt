@@ -1,4 +1,3 @@
-use Prim.Native.Nat.{◌-◌}
 use Rattle.member_lists.proofs.Splices.{passed_start, passed_next, passed_full, passed_more, passed_done}
 use Rattle.member_lists.proofs.growing.flatten.Goals as goal
 

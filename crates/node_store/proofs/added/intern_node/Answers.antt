@@ -1,6 +1,5 @@
 -- What is found is answered; where nothing is, the node is added.
 use Rattle.node_store.proofs.Additions.{fresh_searched, number_fits, answer_stored, nothing_there}
-use borrow.Author.Rules.{rules}
 use Rattle.node_store.proofs.added.intern_node.Goals as goal
 
 pub find-found-requires : goal.find-found-requires

@@ -1,4 +1,3 @@
-use Prim.Native.Nat.{◌-◌}
 use Rattle.node_store.proofs.Loops.{writes_start, writes_more, writes_done}
 use Rattle.node_store.proofs.added.put.Goals as goal
 

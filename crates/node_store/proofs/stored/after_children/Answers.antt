@@ -1,4 +1,3 @@
-use Prim.Native.Nat.{◌-◌}
 use Rattle.node_store.proofs.Searches.{after_none, after_more}
 use Rattle.node_store.proofs.stored.after_children.Goals as goal
 

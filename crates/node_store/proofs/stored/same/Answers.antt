@@ -1,4 +1,3 @@
-use Prim.Native.Nat.{◌-◌}
 use Rattle.node_store.proofs.Loops.{agree_length, agree_start, agree_more, agree_fails, agree_done}
 use Rattle.node_store.proofs.stored.same.Goals as goal
 

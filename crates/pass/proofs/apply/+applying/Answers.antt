@@ -1,4 +1,3 @@
-use Prim.Native.Nat.{◌-◌}
 use mathlib.Core.Path.{refl}
 use borrow.Author.Rules.{rules}
 use Rattle.types.proofs.Refusals.{told_on}
@@ -60,8 +59,6 @@ apply_simplification-returns-then-hit-ne0-clause-covers_after t c = search cover
 
 pub apply_simplification-apply_simplification_uncached-r-requires : goal.apply_simplification-apply_simplification_uncached-r-requires
 apply_simplification-apply_simplification_uncached-r-requires t c = (search same_falls, (search rules, search rules))
-
-
 
 pub apply_simplification-remember-requires : goal.apply_simplification-remember-requires
 apply_simplification-remember-requires t c = remember_room c.requires.ready c.apply_simplification_uncached-r.ensures.applies c.in-Node.is

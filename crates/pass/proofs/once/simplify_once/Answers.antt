@@ -1,6 +1,5 @@
 -- The set is that of the one-signed nodes, and the caches are empty.
 use Rattle.pass.proofs.Passing.{once_ready, once_done}
-use borrow.Author.Rules.{rules}
 use Rattle.pass.proofs.once.simplify_once.Goals as goal
 
 pub apply_simplification-requires-clause-ready : goal.apply_simplification-requires-clause-ready

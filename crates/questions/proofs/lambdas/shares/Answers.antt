@@ -1,4 +1,3 @@
-use Prim.Native.Nat.{◌-◌}
 use Rattle.questions.proofs.Sharing.{sharing_start, sharing_here, sharing_next, sharing_row, sharing_found, sharing_more, sharing_done}
 use Rattle.questions.proofs.lambdas.shares.Goals as goal
 

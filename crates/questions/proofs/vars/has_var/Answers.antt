@@ -1,4 +1,3 @@
-use Prim.Native.Nat.{◌-◌}
 use Rattle.questions.proofs.VarWalks.{knowing_start, knowing_here, knowing_row, knowing_next, knowing_more, knowing_root, knowing_done}
 use Rattle.questions.proofs.vars.has_var.Goals as goal
 

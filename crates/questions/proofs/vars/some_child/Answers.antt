@@ -1,4 +1,3 @@
-use Prim.Native.Nat.{◌-◌}
 use Rattle.questions.proofs.VarWalks.{looking_start, looking_small, looking_found, looking_more, looking_done}
 use Rattle.questions.proofs.vars.some_child.Goals as goal
 

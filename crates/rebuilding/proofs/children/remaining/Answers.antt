@@ -1,4 +1,3 @@
-use Prim.Native.Nat.{◌-◌}
 use Rattle.rebuilding.proofs.Copying.{copied_start, copied_here, copied_space, copied_more, copied_done}
 use Rattle.rebuilding.proofs.children.remaining.Goals as goal
 

@@ -1,4 +1,3 @@
-use Prim.Native.Nat.{◌-◌}
 use Rattle.rebuilding.proofs.Exchanging.{head_there, exchange_start, word_in, item_in, item_low, exchange_more, exchange_done}
 use borrow.Author.Rules.{rules}
 use Rattle.rebuilding.proofs.node.exchange.Goals as goal

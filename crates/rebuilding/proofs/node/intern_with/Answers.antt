@@ -1,6 +1,5 @@
 -- The words made are those of the node with these children.
 use Rattle.rebuilding.proofs.Interning.{length_fits, exchanging, prefix_in, prefix_length, fresh, rebuilt}
-use borrow.Author.Rules.{rules}
 use Rattle.rebuilding.proofs.node.intern_with.Goals as goal
 
 pub exchange-requires : goal.exchange-requires

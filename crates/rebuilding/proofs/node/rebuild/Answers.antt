@@ -1,7 +1,6 @@
 -- A node with its own children is there already; one with others has a child.
 use Rattle.node_filter.proofs.Filters.{covers_kept}
 use Rattle.rebuilding.proofs.Interning.{one_each, unchanged, some_item}
-use borrow.Author.Rules.{rules}
 use Rattle.rebuilding.proofs.node.rebuild.Goals as goal
 
 pub same_children-requires : goal.same_children-requires

@@ -1,4 +1,3 @@
-use Prim.Native.Nat.{◌-◌}
 use Rattle.rebuilding.proofs.Exchanging.{same_start, same_in, same_item, same_more, same_fails, same_done}
 use borrow.Author.Rules.{rules}
 use Rattle.rebuilding.proofs.node.same_children.Goals as goal

@@ -1,4 +1,3 @@
-use Prim.Native.Nat.{◌-◌}
 use Rattle.renumbering.proofs.Indexing.{searching_start, searching_found, searching_more, searching_done}
 use Rattle.renumbering.proofs.vars.index_of.Goals as goal
 

@@ -1,6 +1,5 @@
 -- The place in the list is the new number.
 use Rattle.renumbering.proofs.VarNodes.{var_wide, var_fresh, place_fits, var_renumbered}
-use borrow.Author.Rules.{rules}
 use Rattle.renumbering.proofs.vars.renumber_var.Goals as goal
 
 pub var_at-v-requires : goal.var_at-v-requires

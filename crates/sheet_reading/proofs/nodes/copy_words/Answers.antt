@@ -1,4 +1,3 @@
-use Prim.Native.Nat.{◌-◌}
 use Rattle.sheet_reading.proofs.Copying.{copy_start, copy_inside, copy_item, copy_more, copy_long, copy_done}
 use Rattle.sheet_reading.proofs.nodes.copy_words.Goals as goal
 

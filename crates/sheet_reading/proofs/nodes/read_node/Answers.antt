@@ -6,7 +6,6 @@ use Rattle.node_store.specs.Intern.{interned_out}
 use Rattle.node_store.specs.declared.added.Interned.TheVariants as interned
 use Rattle.sheet_reading.specs.Inner.Steps.{place_out}
 use Rattle.sheet_reading.specs.declared.bytes.Place.TheVariants as place
-use borrow.Author.Rules.{rules}
 use Rattle.sheet_reading.proofs.nodes.read_node.Goals as goal
 
 pub returns-in_default-clause-stores_node : goal.returns-in_default-clause-stores_node
@@ -32,8 +31,6 @@ slice_bounds-node-end c = search node_room
 
 pub slice_bounds-add_node-end : goal.slice_bounds-add_node-end
 slice_bounds-add_node-end c = search node_share
-
-
 
 pub returns-in_default-interned-clause-stores_node : goal.returns-in_default-interned-clause-stores_node
 returns-in_default-interned-clause-stores_node c = node_not_added c.node_end-place.ensures c.in-At.is c.copy_node-count.ensures c.add_node-interned.ensures.adds_node (told_on interned.Refused interned_out (λ e. refl) c.in_default-interned.is c.refusal-in_default-interned.ensures)

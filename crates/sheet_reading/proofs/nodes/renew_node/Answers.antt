@@ -1,4 +1,3 @@
-use Prim.Native.Nat.{◌-◌}
 use Rattle.sheet_reading.proofs.Renewing.{renewing_start, renewing_room, renewing_more, renewing_done}
 use Rattle.sheet_reading.proofs.nodes.renew_node.Goals as goal
 

@@ -1,4 +1,3 @@
-use Prim.Native.Nat.{◌-◌}
 use Rattle.walks.proofs.Sweeps.{adding_start, adding_none, adding_room, adding_more, adding_done}
 use Rattle.walks.proofs.signs.add_all.Goals as goal
 
