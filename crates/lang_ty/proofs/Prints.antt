@@ -1,7 +1,5 @@
 -- Of a type all of whose names are plain both prints answer and leave the same: they ask for its text, which is the same.
-use Prim.Native.Nat.{ℕ}
-use mathlib.Core.Path.{◌≡◌, ap}
-use mathlib.Core.List.{List}
+use mathlib.Core.Path.{ap}
 use Rattle.names.specs.Table.{split}
 use Rattle.spelling.specs.declared.Spelling.TheVariants as spelling
 use Rattle.text_writing.specs.Text.{type_text}

@@ -13,7 +13,7 @@ use Rattle.words.specs.declared.Layout.TheVariants as layout
 use Rattle.words.proofs.Words.{old_is_new}
 use Rattle.types.specs.Out.{refuse}
 use Rattle.types.specs.Kind.{body_count}
-use Rattle.types.specs.Node.{Field, field, primitive, list, lambda, attrset, named, Tag, members, bound, var, neg, form, Node, node, tag, children, kind, data_of, field_names, names, child_words_in, child_words, head_of, encode_in, encode, below, formed_in, formed, linked, well, decode}
+use Rattle.types.specs.Node.{Field, field, primitive, list, lambda, attrset, named, Tag, members, bound, var, neg, form, Node, node, tag, children, kind, data_of, field_names, names, child_words_in, child_words, head_of, encode_in, encode, below, formed_in, linked, well, decode}
 use Rattle.types.proofs.Tests.{true_false, and_true, both}
 use Rattle.types.proofs.Lists.{below_cons, below_more}
 use Rattle.types.proofs.Nodes.{cons, length_child_words, Formed, FormedIn, formed_parts, formed_parts_in, parts_formed, parts_formed_in, formed_today}

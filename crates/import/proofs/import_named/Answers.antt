@@ -1,6 +1,5 @@
 -- The cache is empty, and the filter has all nodes of the target.
 use Rattle.import.proofs.Running.{run_target, run_ready, run_made}
-use borrow.Author.Rules.{rules}
 use Rattle.import.proofs.import_named.Goals as goal
 
 pub set_all_bits-requires-clause-lent : goal.set_all_bits-requires-clause-lent

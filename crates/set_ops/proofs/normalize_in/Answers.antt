@@ -1,7 +1,6 @@
 -- The recursion, from an empty cache and a filter with every node.
 use mathlib.Core.Path.{refl}
 use Rattle.set_ops.proofs.Running.{run_ready, run_made}
-use borrow.Author.Rules.{rules}
 use Rattle.set_ops.proofs.normalize_in.Goals as goal
 
 pub set_all_bits-requires-clause-filter_len : goal.set_all_bits-requires-clause-filter_len
