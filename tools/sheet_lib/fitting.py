@@ -48,7 +48,7 @@ def fits(types, fix, source):
     where, value = reader.here(), reader.whole()
     sheet, names = laid_out(tree, root)
     given = number(len(sheet), 4) + sheet + packed(value, names, where)
-    said = piped([FIT], given, "fix wants the program target/bin/fit, which `rt check fit` builds").decode(errors="replace")
+    said = piped([FIT], given, "fix wants the program target/bin/fit, which `tools/programs fit` builds").decode(errors="replace")
     if said == "refused 14\n":
         first = next(node for node in Sheet(sheet).nodes if kind(node) == TY_VAR)  # the sheet has the root's nodes alone
         raise Refused(f"the type has the variable {variable_text(first[1])}", rule=14)
