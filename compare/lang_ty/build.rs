@@ -1,8 +1,7 @@
-//! Gives the source files, where they stand, the names that Rust's modules look for: links in
-//! OUT_DIR. Nothing is copied. `LANG_TY_SRC` says where they stand, seen from the repository's root:
-//! a folder with the files under the documents' names, or a checkout of tix, with their own.
+//! Gives the source files, unchanged, the names that Rust's modules look for: copies in OUT_DIR, since
+//! `rt ci` refuses a checkout that holds links. `LANG_TY_SRC` says where they stand, seen from the
+//! repository's root: a folder with the files under the documents' names, or a checkout of tix.
 
-use std::os::unix::fs::symlink;
 use std::path::{Path, PathBuf};
 use std::{env, fs};
 
@@ -26,9 +25,10 @@ fn main() {
     for file in FILES {
         let original = original(&source, file);
         println!("cargo:rerun-if-changed={}", original.display());
-        let link = out.join(format!("{file}.rs"));
-        let _ = fs::remove_file(&link);
-        symlink(original, link).unwrap();
+        let copy = out.join(format!("{file}.rs"));
+        // An older build left a link there, through which a copy would be written into the source.
+        let _ = fs::remove_file(&copy);
+        fs::copy(original, copy).unwrap();
     }
     // lib.rs declares this module; it isn't among the files, and none of them uses it.
     fs::write(out.join("disjoint.rs"), "").unwrap();
