@@ -130,8 +130,8 @@ fn finish(
     Closed::Done(intern_list(words, starts, c, kind, list, near, filter))
 }
 
-// What stands for the list that the members make, if none of them decides it. It is kept, with its lists, out of the frame of
-// the recursion that calls this.
+// What stands for the list that the members make, if none of them decides it. As LLVM builds it, it and its lists stay out of the
+// frame of the recursion that calls this; Rattle's own compiler takes no notice of the attribute (docs/DECISIONS.md).
 #[inline(never)]
 fn close_open(
     words: &mut [u32],

@@ -74,7 +74,8 @@ fn intern_with(
 }
 
 // Node n with these children in place of its own. With its own it is node n itself, and no search is needed: most nodes of
-// most passes are of that kind.
+// most passes are of that kind. As LLVM builds it the new node's words stay out of the frames of the recursions that call this.
+#[inline(never)]
 pub fn rebuild(
     words: &mut [u32],
     starts: &mut [u32],
