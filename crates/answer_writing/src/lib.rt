@@ -1,5 +1,5 @@
-// The lines that answer cases, put into a writer: bytes and numbers (`output`), and what many answers have (`lines`).
+// How answers are written: what a call answered (`answer`), and lent memory as it is left (`memory`).
 #![tactic(auto)]
 
-pub mod lines;
-pub mod output;
+pub mod answer;
+pub mod memory;

@@ -18,13 +18,9 @@ pub fn append(text: &mut [u8], count: usize, bytes: &[u8]) -> usize
     if bytes.len() > text.len() - count {
         return text.len() + 1;
     }
-    let mut i = 0;
-    while i < bytes.len() {
-        let k = count + i;
-        text[k] = bytes[i];
-        i += 1;
-    }
-    count + bytes.len()
+    let end = count + bytes.len();
+    text[count..end].copy_from_slice(bytes);
+    end
 }
 
 // The same under a condition.
@@ -32,9 +28,10 @@ pub fn append_if(text: &mut [u8], count: usize, so: bool, bytes: &[u8]) -> usize
     ensures { Writes text.old count (when so bytes.now) text.new result }
 {
     if so {
-        return append(text, count, bytes);
+        append(text, count, bytes)
+    } else {
+        count
     }
-    count
 }
 
 // The same before child i: nothing before the first.
@@ -42,7 +39,8 @@ pub fn append_after(text: &mut [u8], count: usize, i: usize, bytes: &[u8]) -> us
     ensures { Writes text.old count (between bytes.now i) text.new result }
 {
     if i == 0 {
-        return count;
+        count
+    } else {
+        append(text, count, bytes)
     }
-    append(text, count, bytes)
 }

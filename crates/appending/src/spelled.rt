@@ -22,10 +22,8 @@ fn write_escaped(name: &[u8], text: &mut [u8], count: usize) -> usize
     ensures { Writes text.old count (escaped name.now) text.new result }
 {
     let mut end = count;
-    let mut i = 0;
-    while i < name.len() {
+    for i in 0..name.len() {
         end = write_byte(name, i, text, end);
-        i += 1;
     }
     end
 }
@@ -44,9 +42,10 @@ fn write_nix(name: &[u8], text: &mut [u8], count: usize) -> usize
     ensures { Writes text.old count (nix_name name.now) text.new result }
 {
     if plain(name) {
-        return append(text, count, name);
+        append(text, count, name)
+    } else {
+        write_quoted(name, text, count)
     }
-    write_quoted(name, text, count)
 }
 
 // The name as it is spelled.

@@ -3,7 +3,7 @@ use Prim.Native.Nat.{ℕ, ◌≤◌}
 use mathlib.Core.Path.{◌≡◌, ap, ◌∙◌}
 use mathlib.Core.Bool.{true}
 use lib.ListN.{length}
-use Rattle.types.specs.Out.{ok}
+use Rattle.std.specs.Prelude.{Ok}
 use Rattle.types.specs.Node.{Node, node, well, linked, below, names}
 use Rattle.types.specs.Memory.{flat, heads, words_of, starts_of, counters_of}
 use Rattle.types.specs.Reply.{reply, reply_of}
@@ -37,11 +37,11 @@ intern_twice t w s c ns a x n b e H g i =
     let r = done_room H D in
     let k = length_padded (length w) (flat b) r.0 in
     let l = length_padded (length s) (heads b) r.1 in
-    let again : intern (length (words_of (length w) b)) (length (starts_of (length s) b)) x b ≡ ok (n, b)
+    let again : intern (length (words_of (length w) b)) (length (starts_of (length s) b)) x b ≡ Ok (n, b)
     = (λ j. intern (k j) (l j) x b) ∙ done_again (length ns) H.good g D in
     record {
       first = intern_words_is t w s c ns a x e H g ∙ ap (reply_of w s c) i;
       second = intern_words_is t (words_of (length w) b) (starts_of (length s) b) (counters_of b) ns b x e K (well_more (length ns) (length a) (length b) x (ext_length a b (done_ext D)) g)
           ∙ ap (reply_of (words_of (length w) b) (starts_of (length s) b) (counters_of b)) again
-          ∙ (λ j. reply (ok n) (counters_of b) (words_of (k j) b) (starts_of (l j) b));
+          ∙ (λ j. reply (Ok n) (counters_of b) (words_of (k j) b) (starts_of (l j) b));
     }

@@ -4,18 +4,18 @@
 ghost use Rattle.std.specs.Prelude.{◌≡◌};
 ghost use Rattle.arena.specs.Intern.{intern_reply};
 ghost use Rattle.arena.specs.Inner.{InternsWords};
-ghost use Rattle.arena.specs.Compare.{compare_reply, compared_out};
+ghost use Rattle.arena.specs.Compare.{compare_reply};
 ghost use Rattle.arena.specs.Inner.{ComparesIn};
 ghost use Rattle.node_store.specs.Inner.Stored.{Lent};
 ghost use Rattle.node_store.specs.Intern.{left};
 ghost use Rattle.node_store.specs.Inner.Added.{Under};
 
-use node_faults::fault;
-use node_store::added::{Interned, intern_node};
+use node_faults::check_node;
+use node_store::added::intern_node;
 use node_store::stored::order_of;
-use soundness::{Judged, judge};
+use soundness::judge;
 use types::arc_ty::wide;
-use types::{Counters, Ordering};
+use types::{Counters, Ordering, Refusal};
 
 // The number of the node with the words of `node`, if they have no fault, in an arena that is known to be sound.
 fn intern_words(
@@ -24,15 +24,12 @@ fn intern_words(
     c: Counters,
     names: usize,
     node: &[u32],
-) -> Interned
+) -> Result<(u32, Counters), Refusal>
     requires { Under names words.old starts.old c }
     ensures { InternsWords names words.old starts.old c node.now words.new
         starts.new result }
 {
-    let number = fault(node, c.nodes, names);
-    if number != 0 {
-        return Interned::Refused(number);
-    }
+    check_node(node, c.nodes, names)?;
     intern_node(words, starts, c, node)
 }
 
@@ -43,45 +40,42 @@ pub fn intern(
     starts: &mut [u32],
     c: Counters,
     node: &[u32],
-) -> Interned
+) -> Result<(u32, Counters), Refusal>
     ensures { left c result words.new starts.new
         ≡ intern_reply table.now words.old starts.old c node.now }
 {
-    let lent = judge(table, words, starts, c);
-    match lent {
-        Judged::Names(count) => intern_words(words, starts, c, count, node),
-        Judged::Refused(number) => Interned::Refused(number),
-    }
-}
-
-// How two nodes stand, or the number of a refusal.
-#[derive(Clone, Copy)]
-pub enum Compared {
-    Stand(Ordering),
-    Refused(u32),
+    let count = judge(table, words, starts, c)?;
+    intern_words(words, starts, c, count, node)
 }
 
 // How the nodes m and n stand in an arena that is known to be sound.
-fn compare_in(words: &[u32], starts: &[u32], c: Counters, m: usize, n: usize) -> Compared
+fn compare_in(
+    words: &[u32],
+    starts: &[u32],
+    c: Counters,
+    m: usize,
+    n: usize,
+) -> Result<Ordering, Refusal>
     requires { Lent words.now starts.now c }
     ensures { ComparesIn words.now starts.now c m n result }
 {
-    if m >= c.nodes {
-        return Compared::Refused(6);
+    if m >= c.nodes || n >= c.nodes {
+        return Err(Refusal::NoSuchRoot);
     }
-    if n >= c.nodes {
-        return Compared::Refused(6);
-    }
-    Compared::Stand(order_of(words, starts, c, m, n))
+    Ok(order_of(words, starts, c, m, n))
 }
 
 // How the nodes m and n stand in order.
-pub fn compare(table: &[u8], words: &[u32], starts: &[u32], c: Counters, m: u32, n: u32) -> Compared
-    ensures { compared_out result ≡ compare_reply table.now words.now starts.now c m n }
+pub fn compare(
+    table: &[u8],
+    words: &[u32],
+    starts: &[u32],
+    c: Counters,
+    m: u32,
+    n: u32,
+) -> Result<Ordering, Refusal>
+    ensures { result ≡ compare_reply table.now words.now starts.now c m n }
 {
-    let lent = judge(table, words, starts, c);
-    match lent {
-        Judged::Names(count) => compare_in(words, starts, c, wide(m), wide(n)),
-        Judged::Refused(number) => Compared::Refused(number),
-    }
+    judge(table, words, starts, c)?;
+    compare_in(words, starts, c, wide(m), wide(n))
 }

@@ -1,23 +1,16 @@
 -- Two sets combined word by word, by either operation.
 use Prim.Native.Nat.{ℕ, ◌+◌, ◌*◌, ◌/◌, ◌%◌, ◌≤◌, ◌<◌}
 use mathlib.Core.Path.{◌≡◌, ap, ◌∙◌, subst}
-use mathlib.Core.Bool.{Bool, true, false}
+use mathlib.Core.Bool.{Bool}
 use mathlib.Core.List.{List}
 use native.Mathlib.Decide.{ℕ_discrete}
 use native.Mathlib.Omega.{arith}
 use lib.ListN.{length, get_or, set, replicate, length-set, length-replicate, get_or-eq_default}
 use lib.Seq.{get_or-set_same, get_or-set_other}
-use lib.Bits.{bit_or, bit_xor}
 use Rattle.bits.specs.Bits.{bit, has, Combined, either, either_word}
+use Rattle.bits.specs.Inner.{EachWord}
 use Rattle.bits.specs.Theorems.{CombinedRow}
 use Rattle.bits.proofs.Halves.{bit_either, zero_bit}
-
--- ---- two words, as the flag says
-pub word_exclusive : (x y : ℕ) {e : Bool} → e ≡ true → bit_xor x y ≡ either_word e x y
-word_exclusive x y q = rw q
-
-pub word_inclusive : (x y : ℕ) {e : Bool} → e ≡ false → bit_or x y ≡ either_word e x y
-word_inclusive x y q = rw q
 
 -- ---- rows of any length
 pub combined_row : CombinedRow
@@ -28,27 +21,31 @@ combined_row e s t r each = record {
 }
 
 -- ---- the words passed are combined
-pub record Combining (e : Bool) (s t r : List ℕ) (i : ℕ) : Type 0 where
+pub record Combining (answers : ℕ → ℕ → ℕ → Type 0) (s t r : List ℕ) (i : ℕ) : Type 0 where
   pub long : length r ≡ 64
   pub turn : i ≤ 64
-  pub each : (j : ℕ) → j < i → get_or r j 0 ≡ either_word e (get_or s j 0) (get_or t j 0)
+  pub each : (j : ℕ) → j < i → answers (get_or s j 0) (get_or t j 0) (get_or r j 0)
 
-pub combining_start : (e : Bool) (s t : List ℕ) → Combining e s t (replicate 64 0) 0
-combining_start e s t = record { long = length-replicate {A = ℕ} 64 0; turn = omega arith; each = λ j h. absurd (omega arith) }
+module _ (R : ℕ → ℕ → ℕ → Type 0) {s t : List ℕ} where
+  pub combining_start : Combining R s t (replicate 64 0) 0
+  combining_start = record { long = length-replicate {A = ℕ} 64 0; turn = omega arith; each = λ j h. absurd (omega arith) }
 
-module _ {e : Bool} {s t r : List ℕ} {i : ℕ} (C : Combining e s t r i) where
-  pub combining_more : {x : ℕ} → i < 64 → x ≡ either_word e (get_or s i 0) (get_or t i 0) → Combining e s t (set r i x) (i + 1)
-  combining_more {x} h q = record {
-    long = length-set r i x ∙ C.long;
-    turn = omega arith;
-    each = λ j l. go j l (ℕ_discrete j i);
-  }
-    where
-      go : (j : ℕ) → j < i + 1 → Dec (j ≡ i) → get_or (set r i x) j 0 ≡ either_word e (get_or s j 0) (get_or t j 0)
-      go j l (yes p) = rw p (get_or-set_same r i x 0 (omega (arith, C.long)) ∙ q)
-      go j l (no f) = get_or-set_other r i j x 0 f ∙ C.each j (omega arith)
+  module _ {r : List ℕ} {i : ℕ} (C : Combining R s t r i) where
+    pub combining_more : {x : ℕ} → i < 64 → R (get_or s i 0) (get_or t i 0) x → Combining R s t (set r i x) (i + 1)
+    combining_more {x} h q = record {
+      long = length-set r i x ∙ C.long;
+      turn = omega arith;
+      each = λ j l. go j l (ℕ_discrete j i);
+    }
+      where
+        go : (j : ℕ) → j < i + 1 → Dec (j ≡ i) → R (get_or s j 0) (get_or t j 0) (get_or (set r i x) j 0)
+        go j l (yes p) = rw p (rw (get_or-set_same r i x 0 (omega (arith, C.long))) q)
+        go j l (no f) = rw (get_or-set_other r i j x 0 f) (C.each j (omega arith))
 
-  pub combining_done : 64 ≤ i → Combined (either e) 4096 s t r
-  combining_done h =
-      let size : length r * 64 ≡ 4096 = omega (arith, C.long) in
-      subst (λ (k : ℕ). Combined (either e) k s t r) size (combined_row e s t r (λ j l. C.each j (omega (arith, C.long))))
+    pub combining_done : 64 ≤ i → EachWord R s t r
+    combining_done h = record { long = C.long; each = λ j l. C.each j (omega arith) }
+
+pub combined : (e : Bool) {s t r : List ℕ} → length r ≡ 64 → ((i : ℕ) → i < 64 → get_or r i 0 ≡ either_word e (get_or s i 0) (get_or t i 0)) → Combined (either e) 4096 s t r
+combined e {s} {t} {r} long each =
+    let size : length r * 64 ≡ 4096 = omega (arith, long) in
+    subst (λ (k : ℕ). Combined (either e) k s t r) size (combined_row e s t r (λ j l. each j (omega (arith, long))))

@@ -2,8 +2,8 @@
 #![tactic(auto)]
 
 ghost use Rattle.std.specs.Prelude.{◌/◌, ◌<◌, ◌≡◌, length};
-ghost use Rattle.bits.specs.Bits.{has, Put, Combined, either, either_word, count_below};
-ghost use Rattle.bits.specs.Inner.{Row, Union, SymmetricDifference, Ones};
+ghost use Rattle.bits.specs.Bits.{has, Put, count_below};
+ghost use Rattle.bits.specs.Inner.{Row, EachWord, Union, SymmetricDifference};
 
 // Whether n is in the set of a row.
 pub fn test_row(row: &[u64], n: u32) -> bool
@@ -31,8 +31,7 @@ pub fn put_row(row: &mut [u64], n: u32)
 {
     let w = (n / 64) as usize;
     let b = n % 64;
-    let one: u64 = 1;
-    row[w] = row[w] | (one << b);
+    row[w] |= 1 << b;
 }
 
 // Puts n into the set.
@@ -43,45 +42,25 @@ pub fn put(seen: &mut [u64; 64], n: u32)
     put_row(seen, n);
 }
 
-// The ones of a word. An element behind a reference to an array says nothing of its range; a parameter does.
-fn ones_of(x: u64) -> u32
-    ensures { Ones x result }
-{
-    u64::count_ones(x)
-}
-
 // How many numbers the set has.
 pub fn count(seen: &[u64; 64]) -> u32
     ensures { result ≡ count_below (has seen.now) 4096 }
 {
-    let mut sum: u32 = 0;
-    let mut i = 0;
-    while i < 64 {
-        sum += ones_of(seen[i]);
-        i += 1;
+    let mut sum = 0;
+    for word in seen {
+        sum += word.count_ones();
     }
     sum
 }
 
-// The bits of either word, or if `exclusive` those of one word only.
-fn combine_words(x: u64, y: u64, exclusive: bool) -> u64
-    ensures { result ≡ either_word exclusive x y }
+// The words of two sets combined, each by the same operation on bits.
+fn combine<F: Fn(u64, u64) -> u64>(s: &[u64; 64], t: &[u64; 64], f: F) -> [u64; 64]
+    requires { F.IsAlwaysCallable f }
+    ensures { EachWord (F.post f) s.now t.now result }
 {
-    if exclusive {
-        return x ^ y;
-    }
-    x | y
-}
-
-// The numbers of either set, or if `exclusive` those of one set only.
-fn combine(s: &[u64; 64], t: &[u64; 64], exclusive: bool) -> [u64; 64]
-    ensures { Combined (either exclusive) 4096 s.now t.now result }
-{
-    let mut r = [0u64; 64];
-    let mut i = 0;
-    while i < 64 {
-        r[i] = combine_words(s[i], t[i], exclusive);
-        i += 1;
+    let mut r = [0; 64];
+    for i in 0..64 {
+        r[i] = f(s[i], t[i]);
     }
     r
 }
@@ -90,12 +69,12 @@ fn combine(s: &[u64; 64], t: &[u64; 64], exclusive: bool) -> [u64; 64]
 pub fn union(s: &[u64; 64], t: &[u64; 64]) -> [u64; 64]
     ensures { Union s.now t.now result }
 {
-    combine(s, t, false)
+    combine(s, t, |x, y| x | y)
 }
 
 // The numbers of one set only.
 pub fn symmetric_difference(s: &[u64; 64], t: &[u64; 64]) -> [u64; 64]
     ensures { SymmetricDifference s.now t.now result }
 {
-    combine(s, t, true)
+    combine(s, t, |x, y| x ^ y)
 }

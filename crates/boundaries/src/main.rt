@@ -3,470 +3,209 @@
 // `field_word`.
 #![tactic(auto)]
 
+use answer_writing::answer::{Answer, stored};
 use arena::intern;
-use node_store::added::Interned;
+use deep_types::{Arena, head};
+use std::alloc::{AllocError, Global};
 use std::io;
 use types::Counters;
 use types::arc_ty::Head;
 use types::attrset::field_word;
-
-// Prints what a call answered.
-fn tell(rt: &impl Print, label: &str, r: Interned) -> io::Result<()> {
-    print!(rt; "{label}")?;
-    match r {
-        Interned::Node(n, d) => println!(rt; ": {n} {} {}", d.nodes, d.words),
-        Interned::Refused(e) => println!(rt; ": refused {e}"),
-    }
-}
 
 // One call, and what it answered.
 fn try_intern(
     rt: &impl Print,
     label: &str,
     table: &[u8],
-    words: &mut [u32],
-    starts: &mut [u32],
+    arena: &mut Arena,
     c: Counters,
     node: &[u32],
 ) -> io::Result<()> {
-    tell(rt, label, intern(table, words, starts, c, node))
+    let answer = intern(table, &mut arena.words, &mut arena.starts, c, node);
+    println!(rt; "{label}: {}", Answer(answer.map(stored)))
 }
 
-fn set(words: &mut [u32], at: usize, value: u32) {
-    if at < words.len() {
-        words[at] = value;
-    }
-}
-
-fn set_byte(table: &mut [u8], at: usize, value: u8) {
-    if at < table.len() {
-        table[at] = value;
-    }
-}
-
-fn head(kind: u32, count: usize) -> u32 {
-    if kind <= Head::NEG {
-        if count <= 66 {
-            return Head::new(kind, false, false, count).word;
-        }
-    }
-    0
+fn counters(nodes: usize, words: usize) -> Counters {
+    Counters { nodes, words }
 }
 
 // The variables 0, 1, .., two words each.
-fn put_vars(words: &mut [u32], starts: &mut [u32], count: usize) {
-    let top = head(Head::TY_VAR, 1);
-    let mut i: usize = 0;
-    let mut at: usize = 0;
-    while i < count {
-        if 4096 <= i {
-            return;
-        }
-        set(words, at, top);
-        set(words, at + 1, i as u32);
-        set(starts, i, at as u32);
-        at += 2;
-        i += 1;
+fn put_vars(arena: &mut Arena, count: u32) -> Result<(), AllocError> {
+    for index in 0..count {
+        arena.put(Head::TY_VAR, &[index])?;
     }
+    Ok(())
 }
 
 // A union of 64 members, each node 0 or 1 by the bits of `pattern`.
-fn put_union(words: &mut [u32], at: usize, pattern: usize) {
-    if 16384 <= at {
-        return;
-    }
-    set(words, at, head(Head::UNION, 64));
+fn members(pattern: u32) -> [u32; 64] {
+    let mut members = [0; 64];
     let mut rest = pattern;
-    let mut i = 0;
-    while i < 64 {
-        set(words, at + 1 + i, (rest % 2) as u32);
-        rest = rest / 2;
-        i += 1;
+    for member in &mut members {
+        *member = rest % 2;
+        rest /= 2;
     }
+    members
 }
 
-// After the variables 0 and 1, so many different unions of 65 words each.
-fn put_unions(words: &mut [u32], starts: &mut [u32], count: usize) {
-    put_vars(words, starts, 2);
-    let mut i: usize = 0;
-    let mut at: usize = 4;
-    while i < count {
-        if 252 <= i {
-            return;
-        }
-        put_union(words, at, i);
-        set(starts, i + 2, at as u32);
-        at += 65;
-        i += 1;
+// One more name of this length: two bytes that count, and the letter a.
+fn put_name(table: &mut Vec<u8>, number: usize, length: u8) -> Result<(), AllocError> {
+    table.push(length)?;
+    table.push(32 + (number / 90 % 90) as u8)?;
+    table.push(32 + (number % 90) as u8)?;
+    for _ in 2..length {
+        table.push(b'a')?;
     }
-}
-
-// A name of this length, at this place: two bytes that count, and the letter a.
-fn put_name(table: &mut [u8], at: usize, number: usize, length: usize) {
-    if 70000 <= at {
-        return;
-    }
-    if 64 < length {
-        return;
-    }
-    set_byte(table, at, length as u8);
-    let mut i: usize = 0;
-    while i < length {
-        set_byte(table, at + 1 + i, 97);
-        i += 1;
-    }
-    set_byte(table, at + 1, 32 + (number / 90 % 90) as u8);
-    set_byte(table, at + 2, 32 + (number % 90) as u8);
+    Ok(())
 }
 
 // So many names of this length, in their order.
-fn put_names(table: &mut [u8], count: usize, length: usize) {
-    if 64 < length {
-        return;
+fn names(alloc: Global, count: usize, length: u8) -> Result<Vec<u8>, AllocError> {
+    let mut table = Vec::new(alloc);
+    for number in 0..count {
+        put_name(&mut table, number, length)?;
     }
-    let mut i: usize = 0;
-    let mut at: usize = 0;
-    while i < count {
-        if 4100 <= i {
-            return;
-        }
-        put_name(table, at, i, length);
-        at += length + 1;
-        i += 1;
-    }
+    Ok(table)
 }
 
 // Number 1: a table of 4,096 names is taken, and one of 4,097 is not; nor is a byte 127, a name of no byte, or a name twice.
-fn tables(rt: &impl Print) -> io::Result<()> {
-    let mut words = [0u32; 8];
-    let mut starts = [0u32; 4];
-    let none = Counters { nodes: 0, words: 0 };
+fn tables(rt: &impl Print, alloc: Global) -> io::Result<()> {
+    let arena = &mut Arena::new(alloc).lent(8, 4)?;
+    let none = counters(0, 0);
+    let one = counters(1, 2);
     let node = [head(Head::TY_VAR, 1), 7];
-    let mut most = [0u8; 12288];
-    put_names(&mut most, 4096, 2);
-    try_intern(
-        rt,
-        "4096 names",
-        &most,
-        &mut words,
-        &mut starts,
-        none,
-        &node,
-    )?;
-    let mut over = [0u8; 12291];
-    put_names(&mut over, 4097, 2);
-    try_intern(
-        rt,
-        "4097 names",
-        &over,
-        &mut words,
-        &mut starts,
-        Counters { nodes: 1, words: 2 },
-        &node,
-    )?;
-    try_intern(
-        rt,
-        "byte 127",
-        &[1, 127],
-        &mut words,
-        &mut starts,
-        none,
-        &node,
-    )?;
-    try_intern(
-        rt,
-        "byte 126",
-        &[1, 126],
-        &mut words,
-        &mut starts,
-        Counters { nodes: 1, words: 2 },
-        &node,
-    )?;
-    try_intern(rt, "empty name", &[0], &mut words, &mut starts, none, &node)?;
-    try_intern(
-        rt,
-        "name twice",
-        &[1, 97, 1, 97],
-        &mut words,
-        &mut starts,
-        none,
-        &node,
-    )
+    let most = names(alloc, 4096, 2)?;
+    try_intern(rt, "4096 names", &most, arena, none, &node)?;
+    let over = names(alloc, 4097, 2)?;
+    try_intern(rt, "4097 names", &over, arena, one, &node)?;
+    try_intern(rt, "byte 127", &[1, 127], arena, none, &node)?;
+    try_intern(rt, "byte 126", &[1, 126], arena, one, &node)?;
+    try_intern(rt, "empty name", &[0], arena, none, &node)?;
+    try_intern(rt, "name twice", &[1, 97, 1, 97], arena, none, &node)
 }
 
 // Number 1 by bytes: 1,008 names of 64 bytes and one of 15 fill a table, and one of 16 is a byte too much.
-fn longest_tables(rt: &impl Print) -> io::Result<()> {
-    let mut words = [0u32; 8];
-    let mut starts = [0u32; 4];
-    let none = Counters { nodes: 0, words: 0 };
+fn longest_tables(rt: &impl Print, alloc: Global) -> io::Result<()> {
+    let arena = &mut Arena::new(alloc).lent(8, 4)?;
     let node = [head(Head::TY_VAR, 1), 7];
-    let mut most = [0u8; 65536];
-    put_names(&mut most, 1008, 64);
-    put_name(&mut most, 65520, 1008, 15);
-    try_intern(
-        rt,
-        "65536 bytes",
-        &most,
-        &mut words,
-        &mut starts,
-        none,
-        &node,
-    )?;
-    let mut over = [0u8; 65537];
-    put_names(&mut over, 1008, 64);
-    put_name(&mut over, 65520, 1008, 16);
-    try_intern(
-        rt,
-        "65537 bytes",
-        &over,
-        &mut words,
-        &mut starts,
-        Counters { nodes: 1, words: 2 },
-        &node,
-    )
+    let mut most = names(alloc, 1008, 64)?;
+    put_name(&mut most, 1008, 15)?;
+    try_intern(rt, "65536 bytes", &most, arena, counters(0, 0), &node)?;
+    let mut over = names(alloc, 1008, 64)?;
+    put_name(&mut over, 1008, 16)?;
+    try_intern(rt, "65537 bytes", &over, arena, counters(1, 2), &node)
 }
 
 // Number 2: counters that memory doesn't hold, a word left over, lent words over the limit.
-fn arenas(rt: &impl Print) -> io::Result<()> {
-    let mut words = [0u32; 8];
-    let mut starts = [0u32; 4];
+fn arenas(rt: &impl Print, alloc: Global) -> io::Result<()> {
     let node = [head(Head::TY_VAR, 1), 7];
-    put_vars(&mut words, &mut starts, 2);
-    try_intern(
-        rt,
-        "two variables",
-        &[],
-        &mut words,
-        &mut starts,
-        Counters { nodes: 2, words: 4 },
-        &node,
-    )?;
-    try_intern(
-        rt,
-        "stale counters",
-        &[],
-        &mut words,
-        &mut starts,
-        Counters { nodes: 2, words: 4 },
-        &node,
-    )?;
-    let mut over = [0u32; 16385];
-    let mut most = [0u32; 16384];
-    let mut few = [0u32; 1];
-    let none = Counters { nodes: 0, words: 0 };
-    try_intern(rt, "16385 words", &[], &mut over, &mut few, none, &node)?;
-    try_intern(rt, "16384 words", &[], &mut most, &mut few, none, &node)
+    let mut arena = Arena::new(alloc);
+    put_vars(&mut arena, 2)?;
+    let arena = &mut arena.lent(8, 4)?;
+    try_intern(rt, "two variables", &[], arena, counters(2, 4), &node)?;
+    try_intern(rt, "stale counters", &[], arena, counters(2, 4), &node)?;
+    let over = &mut Arena::new(alloc).lent(16385, 1)?;
+    try_intern(rt, "16385 words", &[], over, counters(0, 0), &node)?;
+    let most = &mut Arena::new(alloc).lent(16384, 1)?;
+    try_intern(rt, "16384 words", &[], most, counters(0, 0), &node)
 }
 
 // Numbers 3 and 4, in an arena of two variables.
-fn faults(rt: &impl Print) -> io::Result<()> {
-    let mut words = [0u32; 80];
-    let mut starts = [0u32; 8];
-    put_vars(&mut words, &mut starts, 2);
-    let two = Counters { nodes: 2, words: 4 };
+fn faults(rt: &impl Print, alloc: Global) -> io::Result<()> {
+    let mut arena = Arena::new(alloc);
+    put_vars(&mut arena, 2)?;
+    let arena = &mut arena.lent(80, 8)?;
     let table = [1, 97, 1, 98];
-    let mut over = [0u32; 66];
+    let mut over = [0; 66];
     over[0] = head(Head::UNION, 65);
-    try_intern(
-        rt,
-        "65 members",
-        &table,
-        &mut words,
-        &mut starts,
-        two,
-        &over,
-    )?;
-    let mut most = [0u32; 65];
+    try_intern(rt, "65 members", &table, arena, counters(2, 4), &over)?;
+    let mut most = [0; 65];
     most[0] = head(Head::UNION, 64);
-    try_intern(
-        rt,
-        "64 members",
-        &table,
-        &mut words,
-        &mut starts,
-        two,
-        &most,
-    )?;
-    let c = Counters {
-        nodes: 3,
-        words: 69,
-    };
-    try_intern(rt, "no word", &table, &mut words, &mut starts, c, &[])?;
+    try_intern(rt, "64 members", &table, arena, counters(2, 4), &most)?;
+    let c = counters(3, 69);
+    try_intern(rt, "no word", &table, arena, c, &[])?;
     let code = [head(Head::PRIMITIVE, 1), 8];
-    try_intern(rt, "code 8", &table, &mut words, &mut starts, c, &code)?;
+    try_intern(rt, "code 8", &table, arena, c, &code)?;
     let own = [head(Head::LIST, 1), 3];
-    try_intern(rt, "child 3 of 3", &table, &mut words, &mut starts, c, &own)?;
+    try_intern(rt, "child 3 of 3", &table, arena, c, &own)?;
     let lower = [head(Head::LIST, 1), 2];
-    try_intern(
-        rt,
-        "child 2 of 3",
-        &table,
-        &mut words,
-        &mut starts,
-        c,
-        &lower,
-    )?;
-    name_faults(rt, &table, &mut words, &mut starts)
+    try_intern(rt, "child 2 of 3", &table, arena, c, &lower)?;
+    name_faults(rt, &table, arena)
 }
 
 // Number 5, in the arena that `faults` leaves.
-fn name_faults(
-    rt: &impl Print,
-    table: &[u8],
-    words: &mut [u32],
-    starts: &mut [u32],
-) -> io::Result<()> {
+fn name_faults(rt: &impl Print, table: &[u8], arena: &mut Arena) -> io::Result<()> {
+    let set = head(Head::ATTR_SET, 2);
     let a = field_word(false, 0, 0);
     let b = field_word(true, 1, 1);
-    let d = Counters {
-        nodes: 4,
-        words: 71,
-    };
-    try_intern(
-        rt,
-        "names fall",
-        table,
-        words,
-        starts,
-        d,
-        &[head(Head::ATTR_SET, 2), b, a],
-    )?;
-    try_intern(
-        rt,
-        "names repeat",
-        table,
-        words,
-        starts,
-        d,
-        &[head(Head::ATTR_SET, 2), b, b],
-    )?;
-    try_intern(
-        rt,
-        "names rise",
-        table,
-        words,
-        starts,
-        d,
-        &[head(Head::ATTR_SET, 2), a, b],
-    )
+    let c = counters(4, 71);
+    try_intern(rt, "names fall", table, arena, c, &[set, b, a])?;
+    try_intern(rt, "names repeat", table, arena, c, &[set, b, b])?;
+    try_intern(rt, "names rise", table, arena, c, &[set, a, b])
 }
 
 // Name 4,095 is in a table of 4,096 names, and not in one of 4,095.
-fn last_name(rt: &impl Print) -> io::Result<()> {
-    let mut words = [0u32; 8];
-    let mut starts = [0u32; 4];
-    put_vars(&mut words, &mut starts, 1);
-    let mut fewer = [0u8; 12285];
-    put_names(&mut fewer, 4095, 2);
-    let mut most = [0u8; 12288];
-    put_names(&mut most, 4096, 2);
-    let one = Counters { nodes: 1, words: 2 };
+fn last_name(rt: &impl Print, alloc: Global) -> io::Result<()> {
+    let mut arena = Arena::new(alloc);
+    put_vars(&mut arena, 1)?;
+    let arena = &mut arena.lent(8, 4)?;
     let node = [head(Head::NAMED, 1), field_word(false, 4095, 0)];
+    let fewer = names(alloc, 4095, 2)?;
     try_intern(
         rt,
         "name 4095 of 4095",
         &fewer,
-        &mut words,
-        &mut starts,
-        one,
+        arena,
+        counters(1, 2),
         &node,
     )?;
-    try_intern(
-        rt,
-        "name 4095 of 4096",
-        &most,
-        &mut words,
-        &mut starts,
-        one,
-        &node,
-    )
+    let most = names(alloc, 4096, 2)?;
+    try_intern(rt, "name 4095 of 4096", &most, arena, counters(1, 2), &node)
 }
 
 // Number 7 by starts: node number 4095 is the last; one more is refused, but a stored one is still found.
-fn most_nodes(rt: &impl Print) -> io::Result<()> {
-    let mut words = [0u32; 16384];
-    let mut starts = [0u32; 4096];
-    put_vars(&mut words, &mut starts, 4095);
+fn most_nodes(rt: &impl Print, alloc: Global) -> io::Result<()> {
+    let mut arena = Arena::new(alloc);
+    put_vars(&mut arena, 4095)?;
+    let arena = &mut arena.full()?;
     let top = head(Head::TY_VAR, 1);
-    let c = Counters {
-        nodes: 4095,
-        words: 8190,
-    };
+    let full = counters(4096, 8192);
     try_intern(
         rt,
         "node 4096",
         &[],
-        &mut words,
-        &mut starts,
-        c,
+        arena,
+        counters(4095, 8190),
         &[top, 4095],
     )?;
-    let full = Counters {
-        nodes: 4096,
-        words: 8192,
-    };
-    try_intern(
-        rt,
-        "node 4097",
-        &[],
-        &mut words,
-        &mut starts,
-        full,
-        &[top, 4096],
-    )?;
-    try_intern(
-        rt,
-        "node 17 again",
-        &[],
-        &mut words,
-        &mut starts,
-        full,
-        &[top, 17],
-    )
+    try_intern(rt, "node 4097", &[], arena, full, &[top, 4096])?;
+    try_intern(rt, "node 17 again", &[], arena, full, &[top, 17])
 }
 
 // Number 7 by words: the last union ends with word 16,384; one word more is refused, but a stored node is still found.
-fn most_words(rt: &impl Print) -> io::Result<()> {
-    let mut words = [0u32; 16384];
-    let mut starts = [0u32; 4096];
-    put_unions(&mut words, &mut starts, 251);
-    let mut last = [0u32; 65];
-    put_union(&mut last, 0, 251);
-    let c = Counters {
-        nodes: 253,
-        words: 16319,
-    };
-    try_intern(rt, "word 16384", &[], &mut words, &mut starts, c, &last)?;
-    let full = Counters {
-        nodes: 254,
-        words: 16384,
-    };
-    try_intern(
-        rt,
-        "word 16385",
-        &[],
-        &mut words,
-        &mut starts,
-        full,
-        &[head(Head::TOP, 0)],
-    )?;
-    try_intern(
-        rt,
-        "last union again",
-        &[],
-        &mut words,
-        &mut starts,
-        full,
-        &last,
-    )
+fn most_words(rt: &impl Print, alloc: Global) -> io::Result<()> {
+    let mut arena = Arena::new(alloc);
+    put_vars(&mut arena, 2)?;
+    for pattern in 0..251 {
+        arena.put(Head::UNION, &members(pattern))?;
+    }
+    let arena = &mut arena.full()?;
+    let mut last = [head(Head::UNION, 64); 65];
+    last[1..].copy_from_slice(&members(251));
+    let full = counters(254, 16384);
+    try_intern(rt, "word 16384", &[], arena, counters(253, 16319), &last)?;
+    let top = [head(Head::TOP, 0)];
+    try_intern(rt, "word 16385", &[], arena, full, &top)?;
+    try_intern(rt, "last union again", &[], arena, full, &last)
 }
 
 fn main(rt: HostRuntime) -> io::Result<()> {
-    tables(&rt)?;
-    longest_tables(&rt)?;
-    arenas(&rt)?;
-    faults(&rt)?;
-    last_name(&rt)?;
-    most_nodes(&rt)?;
-    most_words(&rt)
+    let alloc = rt.alloc();
+    tables(&rt, alloc)?;
+    longest_tables(&rt, alloc)?;
+    arenas(&rt, alloc)?;
+    faults(&rt, alloc)?;
+    last_name(&rt, alloc)?;
+    most_nodes(&rt, alloc)?;
+    most_words(&rt, alloc)
 }

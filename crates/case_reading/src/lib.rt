@@ -1,7 +1,7 @@
-// The cases that programs answer, read from a reader (`input`), and what they are made of: numbers (`numbers`), and the
-// memory that a host lends (`host`).
+// The cases that programs answer: read from a reader, one behind the other (`input`), taken apart (`case`), and the memory that a
+// host lends (`memory`).
 #![tactic(auto)]
 
-pub mod host;
+pub mod case;
 pub mod input;
-pub mod numbers;
+pub mod memory;

@@ -4,12 +4,13 @@ use mathlib.Core.Path.{◌≡◌, refl, sym, ap, ◌∙◌, subst}
 use mathlib.Core.List.{List, []}
 use native.Mathlib.Omega.{arith}
 use lib.ListN.{length, replicate, length-replicate}
+use Rattle.std.specs.Prelude.{Ok, Err}
+use Rattle.types.specs.declared.refusal.Refusal.{Refusal}
+use Rattle.types.specs.Out.{Out}
 use Rattle.types.specs.Arena.{Arena, sound}
 use Rattle.types.specs.Memory.{flat, heads, words_of, starts_of, counters_of, Holds}
 use Rattle.types.specs.Reply.{reply_of}
 use Rattle.types.specs.declared.Counters.{Counters}
-use Rattle.node_store.specs.declared.added.Interned.{Interned}
-use Rattle.node_store.specs.declared.added.Interned.TheVariants as interned
 use Rattle.recursion.specs.Inner.Work.{Leads, Ready, Does, TakesBack}
 use Rattle.recursion.proofs.Leading.{leads_done, leads_stop}
 use Rattle.recursion.proofs.Remembering.{cache_none}
@@ -17,7 +18,6 @@ use Rattle.copying.specs.Copy.{copy}
 use Rattle.copying.specs.Inner.{Source}
 use Rattle.compact.specs.Compact.{cleared, empty, compacted, left}
 use Rattle.compact.specs.Inner.{ClearReady, CompactsCleared}
-use Rattle.compact.specs.declared.Copied.TheVariants as copied
 
 abbrev zeros : ℕ → List ℕ
 zeros k = replicate k 0
@@ -62,7 +62,7 @@ module _ {w s : List ℕ} {c : Counters} {root : ℕ} {tw ts : List ℕ} (R : Cl
           cache = cache_none;
         }
 
-    module _ {tw₂ ts₂ entries : List ℕ} {r : Interned} (D : Does copy (Source w s c) tw₁ ts₁ empty root (replicate 4096 0) tw₂ ts₂ entries r) where
+    module _ {tw₂ ts₂ entries : List ℕ} {r : Out (ℕ × Counters)} (D : Does copy (Source w s c) tw₁ ts₁ empty root (replicate 4096 0) tw₂ ts₂ entries r) where
       -- the run is that of the definition
       lw : length tw₁ ≡ length tw
       lw = ap length (taken T) ∙ long tw
@@ -77,7 +77,7 @@ module _ {w s : List ℕ} {c : Counters} {root : ℕ} {tw ts : List ℕ} (R : Cl
         led : Leads table [] (copy (length tw₁) (length ts₁) u) (length u) tw₂ ts₂ entries r (copy (length tw₁) (length ts₁) u root [])
         led = D.is table u [] (begins table) (record { holds = H }) (omega (arith, R.range.inside, H.nodes)) cache_none
 
-      pub cleared_done : {n : ℕ} {d : Counters} → r ≡ interned.Node n d → length tw₂ ≡ length tw₁ → length ts₂ ≡ length ts₁ → CompactsCleared w s c root tw ts tw₂ ts₂ (record { answer = copied.Root n; counters = d })
+      pub cleared_done : {n : ℕ} {d : Counters} → r ≡ Ok (n, d) → length tw₂ ≡ length tw₁ → length ts₂ ≡ length ts₁ → CompactsCleared w s c root tw ts tw₂ ts₂ (record { answer = Ok n; counters = d })
       unfolding compacted reply_of
       cleared_done {n} {d} q lw₂ ls₂ = record {
         is = λ table u H.
@@ -86,13 +86,13 @@ module _ {w s : List ℕ} {c : Counters} {root : ℕ} {tw ts : List ℕ} (R : Cl
             let cd : d ≡ counters_of F.arena = λ i. record { nodes = G.nodes i; words = G.total i } in
             let ww : tw₂ ≡ words_of (length (cleared tw)) F.arena = G.words ∙ ap (λ (k : ℕ). words_of k F.arena) (lw₂ ∙ ap length (taken T)) in
             let ss : ts₂ ≡ starts_of (length (cleared ts)) F.arena = G.starts ∙ ap (λ (k : ℕ). starts_of k F.arena) (ls₂ ∙ ap length (taken U)) in
-            (λ i. left (record { answer = copied.Root n; counters = cd i }) (ww i) (ss i)) ∙ sym (ap (reply_of (cleared tw) (cleared ts) empty) (run_is u ∙ F.is));
+            (λ i. left (record { answer = Ok n; counters = cd i }) (ww i) (ss i)) ∙ sym (ap (reply_of (cleared tw) (cleared ts) empty) (run_is u ∙ F.is));
       }
 
-      pub cleared_stopped : {x : ℕ} → r ≡ interned.Refused x → {tw₃ ts₃ : List ℕ} → TakesBack tw₂ 0 tw₃ → TakesBack ts₂ 0 ts₃ → length tw₂ ≡ length tw₁ → length ts₂ ≡ length ts₁ → CompactsCleared w s c root tw ts tw₃ ts₃ (record { answer = copied.Refused x; counters = empty })
+      pub cleared_stopped : {x : Refusal} → r ≡ Err x → {tw₃ ts₃ : List ℕ} → TakesBack tw₂ 0 tw₃ → TakesBack ts₂ 0 ts₃ → length tw₂ ≡ length tw₁ → length ts₂ ≡ length ts₁ → CompactsCleared w s c root tw ts tw₃ ts₃ (record { answer = Err x; counters = empty })
       unfolding compacted reply_of
       cleared_stopped {x} q T₂ U₂ lw₂ ls₂ = record {
         is = λ table u H.
             let S = leads_stop (led H) q in
-            (λ i. left (record { answer = copied.Refused x; counters = empty }) (again tw (lw₂ ∙ lw) T₂ i) (again ts (ls₂ ∙ ls) U₂ i)) ∙ sym (ap (reply_of (cleared tw) (cleared ts) empty) (run_is u ∙ S.is));
+            (λ i. left (record { answer = Err x; counters = empty }) (again tw (lw₂ ∙ lw) T₂ i) (again ts (ls₂ ∙ ls) U₂ i)) ∙ sym (ap (reply_of (cleared tw) (cleared ts) empty) (run_is u ∙ S.is));
       }

@@ -1,6 +1,5 @@
 -- What the inner functions ask and answer.
-use Rattle.std.specs.Prelude.{ℕ, ◌≤◌, ◌≡◌, List, length}
-use Rattle.types.specs.Out.{ok}
+use Rattle.std.specs.Prelude.{ℕ, ◌≤◌, ◌≡◌, List, length, Ok}
 use Rattle.types.specs.Arena.{Arena}
 use Rattle.types.specs.Memory.{Holds}
 use Rattle.types.specs.Reply.{rooted}
@@ -16,8 +15,8 @@ pub record ClearReady (w s : List ℕ) (c : Counters) (root : ℕ) (tw ts : List
   pub few_starts : length ts ≤ 4096
 
 pub record CompactsCleared (w s : List ℕ) (c : Counters) (root : ℕ) (tw ts tw' ts' : List ℕ) (r : Compacted) : Type 0 where
-  pub is : (table : ℕ) (u : Arena) → Holds table w s c u → left r tw' ts' ≡ compacted root tw ts empty (ok u)
+  pub is : (table : ℕ) (u : Arena) → Holds table w s c u → left r tw' ts' ≡ compacted root tw ts empty (Ok u)
 
 pub record CompactsLent (w s : List ℕ) (c : Counters) (root : ℕ) (tw ts : List ℕ) (d : Counters) (tw' ts' : List ℕ)
     (r : Compacted) : Type 0 where
-  pub is : (table : ℕ) (u : Arena) → Holds table w s c u → left r tw' ts' ≡ compacted root tw ts d (limited tw ts (rooted root ok u))
+  pub is : (table : ℕ) (u : Arena) → Holds table w s c u → left r tw' ts' ≡ compacted root tw ts d (limited tw ts (rooted root Ok u))

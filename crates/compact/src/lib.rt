@@ -7,23 +7,15 @@ ghost use Rattle.compact.specs.Compact.{compact_reply, left};
 ghost use Rattle.compact.specs.Inner.{ClearReady, CompactsCleared, CompactsLent};
 
 use copying::compact_inner;
-use node_store::added::Interned;
 use recursion::take_back_nodes;
-use soundness::{Judged, judge};
-use types::Counters;
+use soundness::judge;
 use types::arc_ty::wide;
-
-// The root's number in the target, or the number of a refusal.
-#[derive(Clone, Copy)]
-pub enum Copied {
-    Root(u32),
-    Refused(u32),
-}
+use types::{Counters, Refusal};
 
 // The answer, and the counters of the target, which a refusal may change too.
-#[derive(Clone, Copy)]
+#[derive(Clone, Copy, Debug, PartialEq, Eq)]
 pub struct Compacted {
-    pub answer: Copied,
+    pub answer: Result<u32, Refusal>,
     pub counters: Counters,
 }
 
@@ -43,7 +35,7 @@ fn compact_cleared(
     let counters = Counters { nodes: 0, words: 0 };
     take_back_nodes(target_words, target_starts, counters);
     let mut cache = [0u32; 4096];
-    let r = compact_inner(
+    let copied = compact_inner(
         words,
         starts,
         c,
@@ -53,15 +45,18 @@ fn compact_cleared(
         counters,
         &mut cache,
     );
-    let Interned::Node(n, d) = r else {
-        take_back_nodes(target_words, target_starts, counters);
-        let answer = Copied::Refused(r.refusal());
-        return Compacted { answer, counters };
-    };
-    let answer = Copied::Root(n);
-    Compacted {
-        answer,
-        counters: d,
+    match copied {
+        Ok((n, d)) => Compacted {
+            answer: Ok(n),
+            counters: d,
+        },
+        Err(refusal) => {
+            take_back_nodes(target_words, target_starts, counters);
+            Compacted {
+                answer: Err(refusal),
+                counters,
+            }
+        }
     }
 }
 
@@ -80,12 +75,16 @@ fn compact_lent(
         target_starts.old counters target_words.new target_starts.new result }
 {
     if (target_words.len() > 16384) | (target_starts.len() > 4096) {
-        let answer = Copied::Refused(2);
-        return Compacted { answer, counters };
+        return Compacted {
+            answer: Err(Refusal::UnsoundArena),
+            counters,
+        };
     }
     if wide(root) >= c.nodes {
-        let answer = Copied::Refused(6);
-        return Compacted { answer, counters };
+        return Compacted {
+            answer: Err(Refusal::NoSuchRoot),
+            counters,
+        };
     }
     compact_cleared(words, starts, c, root, target_words, target_starts)
 }
@@ -106,22 +105,19 @@ pub fn compact(
         ≡ compact_reply table.now words.now starts.now c root target_words.old
         target_starts.old counters }
 {
-    let lent = judge(table, words, starts, c);
-    match lent {
-        Judged::Names(count) => {
-            compact_lent(
-                words,
-                starts,
-                c,
-                root,
-                target_words,
-                target_starts,
-                counters,
-            )
-        }
-        Judged::Refused(number) => {
-            let answer = Copied::Refused(number);
-            Compacted { answer, counters }
-        }
+    match judge(table, words, starts, c) {
+        Ok(_) => compact_lent(
+            words,
+            starts,
+            c,
+            root,
+            target_words,
+            target_starts,
+            counters,
+        ),
+        Err(refusal) => Compacted {
+            answer: Err(refusal),
+            counters,
+        },
     }
 }

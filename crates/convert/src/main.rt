@@ -3,20 +3,20 @@
 #![tactic(auto)]
 
 use program_io::read_full;
-use sheet_converting::{Converted, convert_sheet};
+use sheet_converting::convert_sheet;
 use std::io;
 use std::io::Write;
 
 // What is written for a sheet: the new one in its place, or the line of a refusal.
 fn answer(sheet: &mut [u8]) -> &[u8] {
-    let converted = convert_sheet(sheet);
-    match converted {
-        Converted::Sheet => sheet,
-        Converted::Refused(_) => b"refused 11\n",
+    match convert_sheet(sheet) {
+        Ok(()) => sheet,
+        Err(_) => b"refused 11\n",
     }
 }
 
 fn main(rt: HostRuntime) -> io::Result<()> {
+    // An array: its size is the format's, and a `Vec` could run out of memory, a way to fail that this program doesn't have.
     let mut sheet = [0u8; 65537];
     let got = read_full(&mut rt.reader(), &mut sheet)?;
     let answered = answer(&mut sheet[..got]);

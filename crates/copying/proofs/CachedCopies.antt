@@ -6,19 +6,18 @@ use native.Mathlib.Omega.{arith}
 use native.Mathlib.Decide.{ℕ_discrete}
 use lib.ListN.{length, get_or, take, set}
 use lib.Seq.{get_or-set_same, get_or-set_other}
-use Rattle.types.specs.Out.{ok}
+use Rattle.std.specs.Prelude.{Ok, Err}
+use Rattle.types.specs.declared.refusal.Refusal.{Refusal}
+use Rattle.types.specs.Out.{Out}
 use Rattle.types.specs.Node.{node, tag, children}
 use Rattle.types.specs.Arena.{Arena, at, find}
 use Rattle.types.specs.Memory.{Holds}
 use Rattle.types.specs.declared.Counters.{Counters}
+use Rattle.types.proofs.Refusals.{ok_pair}
 use Rattle.types.proofs.Memories.{unique}
-use Rattle.node_store.specs.declared.added.Interned.{Interned}
-use Rattle.node_store.specs.declared.added.Interned.TheVariants as interned
 use Rattle.recursion.specs.Jobs.{each}
 use Rattle.recursion.specs.Inner.Cache.{Remembers}
 use Rattle.recursion.specs.Inner.Work.{Ready, Does, DoesEach}
-use Rattle.recursion.specs.declared.Run.{Run}
-use Rattle.recursion.specs.declared.Run.TheVariants as run
 use Rattle.recursion.proofs.Leading.{Done, leads_done, EachDone, each_done}
 use Rattle.recursion.proofs.Remembering.{ready_small}
 use Rattle.rebuilding.specs.Inner.Children.{AllChildren}
@@ -38,34 +37,34 @@ module _ {w s : List ℕ} {c : Counters} {tw ts entries : List ℕ} where
   pub none_cached : {d : Counters} → d.nodes ≡ 0 → AllCached w s c tw ts d entries
   none_cached z = record { is = λ table u a H K n m C e. omega (arith, copy_inside C, K.nodes, z) }
 
-  pub cached_same : {m : ℕ} {d : Counters} → AllCached w s c tw ts d entries → CachedAfter w s c tw ts entries (interned.Node m d)
-  cached_same {d = d} A = record { is = λ i f e. let p : d ≡ f = cc in subst (λ (x : Counters). AllCached w s c tw ts x entries) p A }
+  pub cached_same : {m : ℕ} {d : Counters} → AllCached w s c tw ts d entries → CachedAfter w s c tw ts entries (Ok (m, d))
+  cached_same {d = d} A = record { is = λ i f e. subst (λ (x : Counters). AllCached w s c tw ts x entries) (ok_pair e).1 A }
 
-  pub cached_refused : {r : Interned} {v : ℕ} → r ≡ interned.Refused v → CachedAfter w s c tw ts entries r
+  pub cached_refused : {r : Out (ℕ × Counters)} {v : Refusal} → r ≡ Err v → CachedAfter w s c tw ts entries r
   cached_refused q = record { is = λ m d e. let z : ◌≡◌ {A = ℕ} 0 1 = cc in absurd (omega arith) }
 
-  pub once_refused : {n v : ℕ} → CachedOnce w s c n tw ts entries (interned.Refused v)
+  pub once_refused : {n : ℕ} {v : Refusal} → CachedOnce w s c n tw ts entries (Err v)
   once_refused = record { is = λ m d l e M. let z : ◌≡◌ {A = ℕ} 0 1 = cc in absurd (omega arith) }
 
-  pub run_refused : {v : ℕ} → CachedRun w s c tw ts entries (run.Refused v)
+  pub run_refused : {v : Refusal} → CachedRun w s c tw ts entries (Err v)
   run_refused = record { is = λ d e. let z : ◌≡◌ {A = ℕ} 0 1 = cc in absurd (omega arith) }
 
-  pub run_same : {d : Counters} → AllCached w s c tw ts d entries → CachedRun w s c tw ts entries (run.Went d)
+  pub run_same : {d : Counters} → AllCached w s c tw ts d entries → CachedRun w s c tw ts entries (Ok d)
   run_same {d} A = record { is = λ f e. let p : d ≡ f = cc in subst (λ (x : Counters). AllCached w s c tw ts x entries) p A }
 
-  pub cached_once : {n m : ℕ} {d : Counters} {entries' : List ℕ} {r : Interned} → CachedOnce w s c n tw ts entries r → r ≡ interned.Node m d → Remembers n m entries entries' → CachedAfter w s c tw ts entries' (interned.Node m d)
-  cached_once {m = m} {d = d} {entries' = l} O q M = record { is = λ i f e. let p : d ≡ f = cc in subst (λ (x : Counters). AllCached w s c tw ts x l) p (O.is m d l q M) }
+  pub cached_once : {n m : ℕ} {d : Counters} {entries' : List ℕ} {r : Out (ℕ × Counters)} → CachedOnce w s c n tw ts entries r → r ≡ Ok (m, d) → Remembers n m entries entries' → CachedAfter w s c tw ts entries' (Ok (m, d))
+  cached_once {m = m} {d = d} {entries' = l} O q M = record { is = λ i f e. subst (λ (x : Counters). AllCached w s c tw ts x l) (ok_pair e).1 (O.is m d l q M) }
 
 -- ---- a node without an entry, whose children are copied
 module _ {w s : List ℕ} {c : Counters} {tw ts : List ℕ} {d : Counters} {n : ℕ} {entries : List ℕ} (P : Ready copy (Source w s c) tw ts d n entries) {r : Children} (L : AllChildren w s c n r)
-    {tw' ts' items' entries' : List ℕ} {g : Run} (E : DoesEach copy (Source w s c) tw ts d n r.items r.count entries tw' ts' items' entries' g) {e : Counters} (q : g ≡ run.Went e) where
+    {tw' ts' items' entries' : List ℕ} {g : Out Counters} (E : DoesEach copy (Source w s c) tw ts d n r.items r.count entries tw' ts' items' entries' g) {e : Counters} (q : g ≡ Ok e) where
   from : Holds P.table w s c P.source
   from = P.beside.holds
 
   D : EachDone P.table P.view (copy (length tw) (length ts) P.source) (length P.source) tw' ts' entries' items' r.count e (each (copy (length tw) (length ts) P.source) (take r.count r.items) P.view)
   D = each_done (E.is P.table P.source P.view P.holds P.beside P.inside P.cache) q
 
-  ran : each (copy (length tw) (length ts) P.source) (children (at P.source n)) P.view ≡ ok (take r.count items', D.arena)
+  ran : each (copy (length tw) (length ts) P.source) (children (at P.source n)) P.view ≡ Ok (take r.count items', D.arena)
   ran = ap (λ (cs : List ℕ). each (copy (length tw) (length ts) P.source) cs P.view) (sym (L.is P.table P.source from).is) ∙ D.is
 
   S : RanAll P.table P.source P.view (children (at P.source n)) (take r.count items') D.arena
@@ -79,13 +78,13 @@ module _ {w s : List ℕ} {c : Counters} {tw ts : List ℕ} {d : Counters} {n : 
   }
 
   -- another node with a copy after the node's own had it before
-  copy_cached : AllCached w s c tw' ts' e entries' → {tw'' ts'' : List ℕ} {i : Interned} → Does copy (Source w s c) tw ts d n entries tw'' ts'' entries' i → CachedOnce w s c n tw'' ts'' entries' i
+  copy_cached : AllCached w s c tw' ts' e entries' → {tw'' ts'' : List ℕ} {i : Out (ℕ × Counters)} → Does copy (Source w s c) tw ts d n entries tw'' ts'' entries' i → CachedOnce w s c n tw'' ts'' entries' i
   copy_cached A {tw''} {ts''} {i} F = record { is = λ m f l p M. record { is = λ table u b H K j k C z. go m f l p M (unique H from) (unique K (led p).holds) j k C z (ℕ_discrete j n) } }
     where
-      led : {m : ℕ} {f : Counters} → i ≡ interned.Node m f → Done P.table P.view (copy (length tw) (length ts) P.source) (length P.source) tw'' ts'' entries' m f (copy (length tw) (length ts) P.source n P.view)
+      led : {m : ℕ} {f : Counters} → i ≡ Ok (m, f) → Done P.table P.view (copy (length tw) (length ts) P.source) (length P.source) tw'' ts'' entries' m f (copy (length tw) (length ts) P.source n P.view)
       led p = leads_done (F.is P.table P.source P.view P.holds P.beside P.inside P.cache) p
 
-      go : (m : ℕ) (f : Counters) (l : List ℕ) (p : i ≡ interned.Node m f) → Remembers n m entries' l → {u b : Arena} → u ≡ P.source → b ≡ (led p).arena → (j k : ℕ) → CopyOf u b j k → get_or l j 0 ≡ 0 → Dec (j ≡ n) → ⊥
+      go : (m : ℕ) (f : Counters) (l : List ℕ) (p : i ≡ Ok (m, f)) → Remembers n m entries' l → {u b : Arena} → u ≡ P.source → b ≡ (led p).arena → (j k : ℕ) → CopyOf u b j k → get_or l j 0 ≡ 0 → Dec (j ≡ n) → ⊥
       go m f l p M us bs j k C z (yes x) =
           let y = get_or-set_same entries' n (suc m) 0 (omega (arith, ready_small copy_lawful P, (led p).cache.long)) in
           let v : get_or l j 0 ≡ get_or (set entries' n (suc m)) n 0 = λ h. get_or (M.is h) (x h) 0 in
@@ -98,6 +97,6 @@ module _ {w s : List ℕ} {c : Counters} {tw ts : List ℕ} {d : Counters} {n : 
           (sym (get_or-set_other entries' n j (suc m) 0 x) ∙ ap (λ (v : List ℕ). get_or v j 0) (sym M.is) ∙ z)
 
   -- the two facts of an answer
-  pub copy_both : AllCached w s c tw' ts' e entries' → {tw'' ts'' : List ℕ} {i : Interned} → Copies w s c n items' r.count tw' ts' e tw'' ts'' i → length tw' ≡ length tw → length ts' ≡ length ts → length tw'' ≡ length tw' → length ts'' ≡ length ts'
+  pub copy_both : AllCached w s c tw' ts' e entries' → {tw'' ts'' : List ℕ} {i : Out (ℕ × Counters)} → Copies w s c n items' r.count tw' ts' e tw'' ts'' i → length tw' ≡ length tw → length ts' ≡ length ts → length tw'' ≡ length tw' → length ts'' ≡ length ts'
       → Does copy (Source w s c) tw ts d n entries tw'' ts'' entries' i × CachedOnce w s c n tw'' ts'' entries' i
   copy_both A B lw ls lw' ls' = let F = copy_done P L E q B lw ls lw' ls' in (F, copy_cached A F)

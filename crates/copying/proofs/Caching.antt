@@ -5,7 +5,8 @@ use mathlib.Core.Bool.{true}
 use mathlib.Core.List.{List, []}
 use native.Mathlib.Omega.{arith}
 use lib.ListN.{length}
-use Rattle.types.specs.Out.{refuse}
+use Rattle.std.specs.Prelude.{Err}
+use Rattle.types.specs.declared.refusal.Refusal.TheVariants as refusal
 use Rattle.types.specs.Node.{tag, children}
 use Rattle.types.specs.Arena.{Arena, sound, here}
 use Rattle.types.specs.declared.Counters.{Counters}
@@ -20,7 +21,7 @@ use Rattle.copying.specs.Inner.{Source}
 pub copy_steady : (words starts table : ℕ) → starts ≤ 4096 → (u : Arena) → sound table u ≡ true → (n : ℕ) → n < length u → Steady table [] There (copy words starts u n)
 unfolding copy
 copy_steady words starts table few u g n l =
-    rec_steady table table {Y = Job} {I = ℕ} (λ j i. j) (λ s x f. rebuild words starts (tag x) (children x) f) (λ a. refuse 6) (λ s. []) (λ x s. here)
+    rec_steady table table {Y = Job} {I = ℕ} (λ j i. j) (λ s x f. rebuild words starts (tag x) (children x) f) (λ a. Err refusal.NoSuchRoot) (λ s. []) (λ x s. here)
     (λ x s f h k i. rebuild_steady words starts table few [] (length s) (tag x) (children x) f (step_well table x s h) (λ c m. k c (step_child table x s h c m) i))
     u g n l 0
 

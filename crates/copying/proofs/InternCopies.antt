@@ -1,4 +1,5 @@
 -- The words made are those of the source's node with the given children, which may be added to the target.
+use Rattle.types.specs.Out.{Out}
 use Prim.Native.Nat.{ℕ, ◌+◌, ◌<◌, ◌≤◌}
 use mathlib.Core.Path.{◌≡◌, refl, sym, ap, ◌∙◌, subst}
 use mathlib.Core.Bool.{true}
@@ -21,7 +22,6 @@ use Rattle.types.proofs.Decodes.{well_parts}
 use Rattle.types.proofs.Memories.{unique}
 use Rattle.node_store.specs.Inner.Stored.{InRange, NodeAt}
 use Rattle.node_store.specs.Inner.Added.{Fresh, Absent, Interns}
-use Rattle.node_store.specs.declared.added.Interned.{Interned}
 use Rattle.recursion.proofs.Interning.{node_is, well_again}
 use Rattle.rebuilding.specs.Inner.Rebuilt.{AsMany, Exchanging, Exchanged}
 use Rattle.rebuilding.proofs.Copying.{children_read}
@@ -95,7 +95,7 @@ module _ {w s : List ℕ} {c : Counters} {n : ℕ} {items : List ℕ} {count : �
       pub leaf_absent : CopyNew w s c n items count tw ts d → Absent tw ts d ws
       leaf_absent F = not_there F (leaf_words R.from)
 
-      pub leaf_copied : {tw' ts' : List ℕ} {o : Interned} → Interns tw ts d ws tw' ts' o → Copies w s c n items count tw ts d tw' ts' o
+      pub leaf_copied : {tw' ts' : List ℕ} {o : Out (ℕ × Counters)} → Interns tw ts d ws tw' ts' o → Copies w s c n items count tw ts d tw' ts' o
       leaf_copied I = record { is = λ table u a H K. I.is table a (node (tag (at u n)) (take count items)) K (may_add H K (leaf_words H)) }
 
     -- ---- of another the children are exchanged
@@ -122,5 +122,5 @@ module _ {w s : List ℕ} {c : Counters} {n : ℕ} {items : List ℕ} {count : �
         pub copy_absent : CopyNew w s c n items count tw ts d → Absent tw ts d (take (count + 1) new)
         copy_absent F = not_there F (new_words R.from)
 
-        pub copied : {tw' ts' : List ℕ} {o : Interned} → Interns tw ts d (take (count + 1) new) tw' ts' o → Copies w s c n items count tw ts d tw' ts' o
+        pub copied : {tw' ts' : List ℕ} {o : Out (ℕ × Counters)} → Interns tw ts d (take (count + 1) new) tw' ts' o → Copies w s c n items count tw ts d tw' ts' o
         copied I = record { is = λ table u a H K. I.is table a (node (tag (at u n)) (take count items)) K (may_add H K (new_words H)) }

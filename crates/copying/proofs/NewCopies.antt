@@ -7,7 +7,8 @@ use mathlib.Core.Option.{Option, none, some}
 use native.Mathlib.Omega.{arith}
 use native.Mathlib.Decide.{dec_lt}
 use lib.ListN.{length}
-use Rattle.types.specs.Out.{Out, ok, ◌>>=◌}
+use Rattle.std.specs.Prelude.{Ok}
+use Rattle.types.specs.Out.{Out, ◌>>=◌}
 use Rattle.types.specs.Node.{positive, Node, node, tag, children}
 use Rattle.types.specs.Arena.{Arena, at, find, sound}
 use Rattle.types.proofs.Sound.{child_lower, find_at}
@@ -53,7 +54,7 @@ module _ (table : ℕ) {u a b : Arena} {n : ℕ} {ms : List ℕ} (g : sound tabl
           absurd (f (copy_injective table g (subst (CopyOf u d i) z C) R.is))
 
 -- a finished copy ends with the node
-pub copy_ends : (words starts table : ℕ) (u : Arena) → sound table u ≡ true → (n : ℕ) → n < length u → (a : Arena) (ms : List ℕ) (b : Arena) (m : ℕ) (d : Arena) → each (copy words starts u) (children (at u n)) a ≡ ok (ms, b) → copy words starts u n a ≡ ok (m, d)
+pub copy_ends : (words starts table : ℕ) (u : Arena) → sound table u ≡ true → (n : ℕ) → n < length u → (a : Arena) (ms : List ℕ) (b : Arena) (m : ℕ) (d : Arena) → each (copy words starts u) (children (at u n)) a ≡ Ok (ms, b) → copy words starts u n a ≡ Ok (m, d)
     → Done words starts (node (tag (at u n)) ms) b m d
 unfolding rebuild ◌>>=◌
 copy_ends words starts table u g n l a ms b m d e q =

@@ -5,15 +5,14 @@ use mathlib.Core.List.{List}
 use native.Mathlib.Omega.{arith}
 use lib.ListN.{length, take}
 use lib.Seq.{length-take-le}
+use Rattle.std.specs.Prelude.{Ok, Err}
+use Rattle.types.specs.declared.refusal.Refusal.{Refusal}
+use Rattle.types.specs.Out.{Out}
 use Rattle.types.specs.Node.{below}
 use Rattle.types.specs.declared.Counters.{Counters}
 use Rattle.types.proofs.Sound.{children_below}
 use Rattle.node_store.specs.Inner.Stored.{InRange}
-use Rattle.node_store.specs.declared.added.Interned.{Interned}
-use Rattle.node_store.specs.declared.added.Interned.TheVariants as interned
 use Rattle.recursion.specs.Inner.Work.{Ready, Does, EachReady, DoesEach}
-use Rattle.recursion.specs.declared.Run.{Run}
-use Rattle.recursion.specs.declared.Run.TheVariants as run
 use Rattle.recursion.proofs.Leading.{each_done}
 use Rattle.recursion.proofs.Nodes.{Rebuilt, node_refused, node_done}
 use Rattle.rebuilding.specs.Inner.Children.{AllChildren}
@@ -46,11 +45,11 @@ module _ {w s : List ℕ} {c : Counters} {tw ts : List ℕ} {d : Counters} {n : 
       step = λ table u a H Q l. copy_at (length tw) (length ts) table u Q.holds.good n l;
     }
 
-    module _ {tw' ts' items' entries' : List ℕ} {g : Run} (E : DoesEach copy (Source w s c) tw ts d n r.items r.count entries tw' ts' items' entries' g) where
-      pub copy_refused : {x : ℕ} → g ≡ run.Refused x → Does copy (Source w s c) tw ts d n entries tw' ts' entries' (interned.Refused x)
+    module _ {tw' ts' items' entries' : List ℕ} {g : Out Counters} (E : DoesEach copy (Source w s c) tw ts d n r.items r.count entries tw' ts' items' entries' g) where
+      pub copy_refused : {x : Refusal} → g ≡ Err x → Does copy (Source w s c) tw ts d n entries tw' ts' entries' (Err x)
       copy_refused p = node_refused copy_lawful copy_rebuilt E p
 
-      module _ {e : Counters} (q : g ≡ run.Went e) where
+      module _ {e : Counters} (q : g ≡ Ok e) where
         pub copy_ready : CopyReady w s c n items' r.count tw' ts' e
         copy_ready =
             let H = P.beside.holds in
@@ -69,6 +68,6 @@ module _ {w s : List ℕ} {c : Counters} {tw ts : List ℕ} {d : Counters} {n : 
               low = ap (λ (z : ℕ). below z (take r.count items')) D.holds.nodes ∙ D.low;
             }
 
-        pub copy_done : {tw'' ts'' : List ℕ} {i : Interned} → Copies w s c n items' r.count tw' ts' e tw'' ts'' i
+        pub copy_done : {tw'' ts'' : List ℕ} {i : Out (ℕ × Counters)} → Copies w s c n items' r.count tw' ts' e tw'' ts'' i
             → length tw' ≡ length tw → length ts' ≡ length ts → length tw'' ≡ length tw' → length ts'' ≡ length ts' → Does copy (Source w s c) tw ts d n entries tw'' ts'' entries' i
         copy_done B lw ls lw' ls' = node_done copy_lawful copy_rebuilt E q (record { is = λ table u a H Q l. B.is table u a Q.holds H }) lw ls lw' ls'

@@ -7,7 +7,7 @@ use mathlib.Core.List.Memᴰ.{tail}
 use mathlib.Core.List.{List, [], ◌∷◌, Memᴰ as Mem}
 use native.Mathlib.Omega.{arith}
 use lib.ListN.{length}
-use Rattle.types.specs.Out.{ok}
+use Rattle.std.specs.Prelude.{Ok}
 use Rattle.types.specs.Node.{Tag, Node, node, tag, children}
 use Rattle.types.specs.Arena.{Arena, at, sound}
 use Rattle.types.proofs.Sound.{child_lower}
@@ -29,9 +29,9 @@ module _ (words starts : ℕ) where
 
   -- a job that leaves room where there was
   abbrev pub Keeps : Job → Type 0
-  Keeps j = (a : Arena) (m : ℕ) (b : Arena) → Roomy a → j a ≡ ok (m, b) → Roomy b
+  Keeps j = (a : Arena) (m : ℕ) (b : Arena) → Roomy a → j a ≡ Ok (m, b) → Roomy b
 
-  each_keeps : (f : ℕ → Job) (cs : List ℕ) → ((c : ℕ) → Mem c cs → Keeps (f c)) → (a : Arena) (ms : List ℕ) (b : Arena) → Roomy a → each f cs a ≡ ok (ms, b) → Roomy b
+  each_keeps : (f : ℕ → Job) (cs : List ℕ) → ((c : ℕ) → Mem c cs → Keeps (f c)) → (a : Arena) (ms : List ℕ) (b : Arena) → Roomy a → each f cs a ≡ Ok (ms, b) → Roomy b
   unfolding each
   each_keeps f [] h a ms b r e = subst (λ (v : List ℕ × Arena). Roomy v.1) (ok_same e) r
   each_keeps f (c ∷ cs) h a ms b r e =

@@ -9,7 +9,7 @@ use mathlib.Core.List.{List, [], ◌∷◌, Memᴰ as Mem}
 use native.Mathlib.Omega.{arith}
 use native.Mathlib.Decide.{dec_lt}
 use lib.ListN.{length, get_or}
-use Rattle.types.specs.Out.{ok}
+use Rattle.std.specs.Prelude.{Ok}
 use Rattle.types.specs.Node.{Polarity, positive, Tag, Node, node, tag, children, well}
 use Rattle.types.specs.Arena.{Arena, at, sound, Ext, here}
 use Rattle.types.specs.Places.{child_sign, Place, self, down}
@@ -100,9 +100,9 @@ counted_done table g h l C (added p q) K = counted_more table g h l C K
 
 module _ (words starts table : ℕ) (few : starts ≤ 4096) (u : Arena) (g : sound table u ≡ true) where
   abbrev Runs : ℕ → Type 0
-  Runs c = (a : Arena) (m : ℕ) (b : Arena) → sound table a ≡ true → copy words starts u c a ≡ ok (m, b) → Ran table u a c m b
+  Runs c = (a : Arena) (m : ℕ) (b : Arena) → sound table a ≡ true → copy words starts u c a ≡ Ok (m, b) → Ran table u a c m b
 
-  each_runs : (cs : List ℕ) → ((c : ℕ) → Mem c cs → Runs c) → (a : Arena) (ms : List ℕ) (b : Arena) → sound table a ≡ true → each (copy words starts u) cs a ≡ ok (ms, b) → RanAll table u a cs ms b
+  each_runs : (cs : List ℕ) → ((c : ℕ) → Mem c cs → Runs c) → (a : Arena) (ms : List ℕ) (b : Arena) → sound table a ≡ true → each (copy words starts u) cs a ≡ Ok (ms, b) → RanAll table u a cs ms b
   unfolding each
   each_runs [] h a ms b k e = subst (λ (v : List ℕ × Arena). RanAll table u a [] v.0 v.1) (ok_same e) (ran_none k)
   each_runs (c ∷ cs) h a ms b k e =
@@ -113,7 +113,7 @@ module _ (words starts table : ℕ) (few : starts ≤ 4096) (u : Arena) (g : sou
       subst (λ (v : List ℕ × Arena). RanAll table u a (c ∷ cs) v.0 v.1) (ok_same q.2) (ran_more R S)
 
   -- the node, once its children are copied
-  made : (n : ℕ) → n < length u → {a d : Arena} {ms : List ℕ} → RanAll table u a (children (at u n)) ms d → (m : ℕ) (b : Arena) → intern words starts (node (tag (at u n)) ms) d ≡ ok (m, b) → Ran table u a n m b
+  made : (n : ℕ) → n < length u → {a d : Arena} {ms : List ℕ} → RanAll table u a (children (at u n)) ms d → (m : ℕ) (b : Arena) → intern words starts (node (tag (at u n)) ms) d ≡ Ok (m, b) → Ran table u a n m b
   made n l {a} {d} {ms} S m b e = record { ext = ext_trans S.ext J.ext; good = J.good; is = whole; new = λ k i h. go k i h (dec_lt k (length d)); counts = λ K. counted_done table g J.good l whole (done words starts (node (tag (at u n)) ms) d m b e) (S.counts K) }
     where
       wellformed : length d ≤ 4096 → well table (length d) (node (tag (at u n)) ms) ≡ true
@@ -133,7 +133,7 @@ module _ (words starts table : ℕ) (few : starts ≤ 4096) (u : Arena) (g : sou
           let q = last_added (done words starts (node (tag (at u n)) ms) d m b e) k (omega (arith, p)) h in
           record { source = n; under = λ s. record { sign = s; place = self }; copy = subst (CopyOf u b n) (sym q) whole }
 
-  children_runs : (n : ℕ) → n < length u → ((c : ℕ) → c < n → Runs c) → (a : Arena) (ms : List ℕ) (b : Arena) → sound table a ≡ true → each (copy words starts u) (children (at u n)) a ≡ ok (ms, b) → RanAll table u a (children (at u n)) ms b
+  children_runs : (n : ℕ) → n < length u → ((c : ℕ) → c < n → Runs c) → (a : Arena) (ms : List ℕ) (b : Arena) → sound table a ≡ true → each (copy words starts u) (children (at u n)) a ≡ Ok (ms, b) → RanAll table u a (children (at u n)) ms b
   children_runs n l h = each_runs (children (at u n)) (λ c i. h c (let x = index_of i in omega (arith, x.is, child_lower table u g n l x.index x.inside)))
 
   runs : (j n : ℕ) → n < j → n < length u → Runs n
@@ -147,11 +147,11 @@ module _ (words starts table : ℕ) (few : starts ≤ 4096) (u : Arena) (g : sou
   pub copy_ran : (n : ℕ) → n < length u → Runs n
   copy_ran n = runs (suc n) n (omega arith)
 
-  pub children_ran : (n : ℕ) → n < length u → (a : Arena) (ms : List ℕ) (b : Arena) → sound table a ≡ true → each (copy words starts u) (children (at u n)) a ≡ ok (ms, b) → RanAll table u a (children (at u n)) ms b
+  pub children_ran : (n : ℕ) → n < length u → (a : Arena) (ms : List ℕ) (b : Arena) → sound table a ≡ true → each (copy words starts u) (children (at u n)) a ≡ Ok (ms, b) → RanAll table u a (children (at u n)) ms b
   children_ran n l = children_runs n l (λ c i. runs n c i (omega (arith, i, l)))
 
   -- ---- from the empty target
-  module _ (root m : ℕ) (b : Arena) (l : root < length u) (e : copy words starts u root [] ≡ ok (m, b)) where
+  module _ (root m : ℕ) (b : Arena) (l : root < length u) (e : copy words starts u root [] ≡ Ok (m, b)) where
     ran : Ran table u [] root m b
     unfolding sound
     ran = copy_ran root l [] m b refl e

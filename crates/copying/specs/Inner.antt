@@ -1,17 +1,14 @@
 -- What the functions of the recursion ask and answer, besides what all recursions do.
-use Rattle.std.specs.Prelude.{ℕ, ◌<◌, ◌≡◌, true, List, length, get_or, take}
+use Rattle.std.specs.Prelude.{ℕ, ◌<◌, ◌≡◌, true, List, length, get_or, take, Ok}
 use Rattle.std.proofs.Math.Option.{none}
+use Rattle.types.specs.Out.{Out}
 use Rattle.types.specs.Node.{node, tag, children, below}
 use Rattle.types.specs.Arena.{Arena, at, find}
 use Rattle.types.specs.Memory.{Holds}
 use Rattle.types.specs.Reply.{reply_of}
 use Rattle.types.specs.declared.Counters.{Counters}
 use Rattle.node_store.specs.Intern.{intern, left}
-use Rattle.node_store.specs.declared.added.Interned.{Interned}
-use Rattle.node_store.specs.declared.added.Interned.TheVariants as interned
 use Rattle.recursion.specs.Inner.Cache.{Remembers}
-use Rattle.recursion.specs.declared.Run.{Run}
-use Rattle.recursion.specs.declared.Run.TheVariants as run
 use Rattle.copying.specs.Theorems.{CopyOf}
 
 -- the source is the arena that this memory holds, under the table of the target; what the target holds is free
@@ -37,7 +34,7 @@ pub record CopyNew (w s : List ℕ) (c : Counters) (n : ℕ) (items : List ℕ) 
 
 -- the answer, and the target's memory after, are those of interning the source's node with these children
 pub record Copies (w s : List ℕ) (c : Counters) (n : ℕ) (items : List ℕ) (count : ℕ) (tw ts : List ℕ) (d : Counters) (tw' ts' : List ℕ)
-    (r : Interned) : Type 0 where
+    (r : Out (ℕ × Counters)) : Type 0 where
   pub is : (table : ℕ) (u a : Arena) → Holds table w s c u → Holds table tw ts d a
       → left d r tw' ts' ≡ reply_of tw ts d (intern (length tw) (length ts) (node (tag (at u n)) (take count items)) a)
 
@@ -46,14 +43,14 @@ pub record AllCached (w s : List ℕ) (c : Counters) (tw ts : List ℕ) (d : Cou
   pub is : (table : ℕ) (u a : Arena) → Holds table w s c u → Holds table tw ts d a → (n m : ℕ) → CopyOf u a n m → get_or entries n 0 ≡ 0 → ⊥
 
 -- so it is after an answer
-pub record CachedAfter (w s : List ℕ) (c : Counters) (tw ts entries : List ℕ) (r : Interned) : Type 0 where
-  pub is : (m : ℕ) (d : Counters) → r ≡ interned.Node m d → AllCached w s c tw ts d entries
+pub record CachedAfter (w s : List ℕ) (c : Counters) (tw ts entries : List ℕ) (r : Out (ℕ × Counters)) : Type 0 where
+  pub is : (m : ℕ) (d : Counters) → r ≡ Ok (m, d) → AllCached w s c tw ts d entries
 
 -- so it is once the answer for n is remembered
-pub record CachedOnce (w s : List ℕ) (c : Counters) (n : ℕ) (tw ts entries : List ℕ) (r : Interned) : Type 0 where
-  pub is : (m : ℕ) (d : Counters) (entries' : List ℕ) → r ≡ interned.Node m d → Remembers n m entries entries'
+pub record CachedOnce (w s : List ℕ) (c : Counters) (n : ℕ) (tw ts entries : List ℕ) (r : Out (ℕ × Counters)) : Type 0 where
+  pub is : (m : ℕ) (d : Counters) (entries' : List ℕ) → r ≡ Ok (m, d) → Remembers n m entries entries'
       → AllCached w s c tw ts d entries'
 
 -- so it is after several nodes
-pub record CachedRun (w s : List ℕ) (c : Counters) (tw ts entries : List ℕ) (r : Run) : Type 0 where
-  pub is : (d : Counters) → r ≡ run.Went d → AllCached w s c tw ts d entries
+pub record CachedRun (w s : List ℕ) (c : Counters) (tw ts entries : List ℕ) (r : Out Counters) : Type 0 where
+  pub is : (d : Counters) → r ≡ Ok d → AllCached w s c tw ts d entries

@@ -1,6 +1,5 @@
 -- What a finished copy of a type into an empty target gives (01, "arena": `compact`).
-use Rattle.std.specs.Prelude.{ℕ, ◌<◌, ◌≤◌, ◌≡◌, true, List, [], length, get_or}
-use Rattle.types.specs.Out.{ok}
+use Rattle.std.specs.Prelude.{ℕ, ◌<◌, ◌≤◌, ◌≡◌, true, List, [], length, get_or, Ok}
 use Rattle.types.specs.Node.{Polarity, positive, Tag, tag, children}
 use Rattle.types.specs.Arena.{Arena, at, fold, sound}
 use Rattle.types.specs.Places.{Place, Reachable}
@@ -12,7 +11,7 @@ pub record Compacts (words starts table : ℕ) (u : Arena) (root m : ℕ) (b : A
   pub few : starts ≤ 4096
   pub good : sound table u ≡ true
   pub inside : root < length u
-  pub run : copy words starts u root [] ≡ ok (m, b)
+  pub run : copy words starts u root [] ≡ Ok (m, b)
 
 -- whatever is read off the tags is the same of the type and its copy, so that the two unfold to the same tree
 abbrev pub CompactFold : {Y : Type 0} → (Tag → List Y → Y) → Type 0

@@ -7,13 +7,13 @@ ghost use Rattle.recursion.specs.Inner.Work.{Ready, Does, EachReady, DoesEach};
 ghost use Rattle.copying.specs.Copy.{copy};
 ghost use Rattle.copying.specs.Inner.{Source, CopyReady, CopyNew, Copies, AllCached, CachedAfter, CachedOnce, CachedRun};
 
-use node_store::added::{Interned, add_node};
+use node_store::added::add_node;
 use node_store::stored::node_at;
 use rebuilding::children::all_children;
 use rebuilding::node::exchange;
-use recursion::{Run, cached, item_at, remember};
-use types::Counters;
+use recursion::{cached, item_at, remember};
 use types::arc_ty::wide;
+use types::{Counters, Refusal};
 
 // The copy of node n, whose children's copies are the items: its words with these children. The target doesn't have it.
 fn intern_copy(
@@ -26,7 +26,7 @@ fn intern_copy(
     target_words: &mut [u32],
     target_starts: &mut [u32],
     d: Counters,
-) -> Interned
+) -> Result<(u32, Counters), Refusal>
     requires copy_ready { CopyReady words.now starts.now c n items.now count target_words.old target_starts.old d }
     requires copy_new { CopyNew words.now starts.now c n items.now count target_words.old target_starts.old d }
     ensures { Copies words.now starts.now c n items.now count target_words.old
@@ -53,7 +53,7 @@ pub fn compact_inner(
     target_starts: &mut [u32],
     d: Counters,
     cache: &mut [u32; 4096],
-) -> Interned
+) -> Result<(u32, Counters), Refusal>
     requires ready { Ready copy (Source words.now starts.now c) target_words.old target_starts.old d n cache.old }
     requires all_cached { AllCached words.now starts.now c target_words.old target_starts.old d cache.old }
     ensures does { Does copy (Source words.now starts.now c) target_words.old
@@ -64,14 +64,14 @@ pub fn compact_inner(
 {
     let hit = cached(cache, n);
     if hit != 0 {
-        return Interned::Node(hit - 1, d);
+        return Ok((hit - 1, d));
     }
     let r = compact_inner_uncached(words, starts, c, n, target_words, target_starts, d, cache);
-    let Interned::Node(m, e) = r else {
+    let Ok((m, e)) = r else {
         return r;
     };
     remember(cache, n, m);
-    Interned::Node(m, e)
+    Ok((m, e))
 }
 
 // The same, worked out, for a node without an entry.
@@ -85,7 +85,7 @@ fn compact_inner_uncached(
     target_starts: &mut [u32],
     d: Counters,
     cache: &mut [u32; 4096],
-) -> Interned
+) -> Result<(u32, Counters), Refusal>
     requires ready { Ready copy (Source words.now starts.now c) target_words.old target_starts.old d n cache.old }
     requires all_cached { AllCached words.now starts.now c target_words.old target_starts.old d cache.old }
     requires n_value { get_or cache.old n 0 ≡ 0 }
@@ -97,7 +97,7 @@ fn compact_inner_uncached(
 {
     let mut list = all_children(words, starts, c, n);
     let count = list.count;
-    let r = compact_each(
+    let e = compact_each(
         words,
         starts,
         c,
@@ -108,10 +108,7 @@ fn compact_inner_uncached(
         target_starts,
         d,
         cache,
-    );
-    let Run::Went(e) = r else {
-        return Interned::Refused(r.refusal());
-    };
+    )?;
     intern_copy(
         words,
         starts,
@@ -138,7 +135,7 @@ fn compact_each(
     target_starts: &mut [u32],
     d: Counters,
     cache: &mut [u32; 4096],
-) -> Run
+) -> Result<Counters, Refusal>
     requires each_ready { EachReady copy (Source words.now starts.now c) target_words.old target_starts.old d n items.old count
         cache.old }
     requires all_cached { AllCached words.now starts.now c target_words.old target_starts.old d cache.old }
@@ -149,10 +146,9 @@ fn compact_each(
         cache.new result }
 {
     let mut last = d;
-    let mut i = 0;
-    while i < count {
+    for i in 0..count {
         let item = item_at(items, i);
-        let r = compact_inner(
+        let (m, e) = compact_inner(
             words,
             starts,
             c,
@@ -161,13 +157,9 @@ fn compact_each(
             target_starts,
             last,
             cache,
-        );
-        let Interned::Node(m, e) = r else {
-            return Run::Refused(r.refusal());
-        };
+        )?;
         items[i] = m;
         last = e;
-        i += 1;
     }
-    Run::Went(last)
+    Ok(last)
 }

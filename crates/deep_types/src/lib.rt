@@ -1,14 +1,23 @@
-// Types that are deep or have a node at very many places, and document 01's pair of sets, put node by node into lent memory that
-// is zero. For the programs that ask about them.
+// Arenas put together node by node without the library, for the programs that ask it about them: types that are deep or have a node
+// at very many places, and a pair of sets.
 #![tactic(auto)]
 
+use std::alloc::{AllocError, Global};
 use types::Counters;
 use types::arc_ty::Head;
 use types::attrset::field_word;
 
+// The names p and q.
+pub const TABLE: [u8; 4] = [1, b'p', 1, b'q'];
+
+// As many nodes as an arena can have, and as many words.
+const NODES: usize = 4096;
+
+const WORDS: usize = 16384;
+
 // The node after another in a chain.
 #[derive(Clone, Copy)]
-pub enum Step {
+enum Step {
     // Its only child is the node before; two kinds in turn.
     Child(u32, u32),
     // The same, under the name q.
@@ -21,129 +30,152 @@ pub enum Step {
     Body,
 }
 
-fn head(kind: u32, count: usize) -> u32 {
-    if kind <= Head::NEG {
-        if count <= 2 {
-            return Head::new(kind, false, false, count).word;
-        }
-    }
-    0
+// A type of 4,096 nodes: each is a child of the next, and the first is the variable a or, where that is node 0, int.
+#[derive(Clone, Copy)]
+pub struct Chain {
+    pub name: &'static str,
+    int: bool,
+    step: Step,
 }
 
+fn of(name: &'static str, int: bool, step: Step) -> Chain {
+    Chain { name, int, step }
+}
+
+// In the first two each node is both children of the next, so the variable has 2^4095 places. A lambda's other child is the
+// variable, and int is below such a chain.
+pub fn chains() -> [Chain; 11] {
+    [
+        of("shared lambdas", false, Step::Both(Head::LAMBDA)),
+        of("shared unions", false, Step::Both(Head::UNION)),
+        of("lists", false, Step::Child(Head::LIST, Head::LIST)),
+        of("lambdas by param", true, Step::Param),
+        of("lambdas by body", true, Step::Body),
+        of("unions", false, Step::Child(Head::UNION, Head::UNION)),
+        of(
+            "intersections",
+            false,
+            Step::Child(Head::INTERSECTION, Head::INTERSECTION),
+        ),
+        of(
+            "unions and intersections",
+            false,
+            Step::Child(Head::UNION, Head::INTERSECTION),
+        ),
+        of("negs", false, Step::Child(Head::NEG, Head::NEG)),
+        of("names", false, Step::Field(Head::NAMED)),
+        of("sets", false, Step::Field(Head::ATTR_SET)),
+    ]
+}
+
+// Nodes, and the memory that is lent with them.
+#[derive(Drop)]
+pub struct Arena {
+    pub words: Vec<u32>,
+    pub starts: Vec<u32>,
+    pub counters: Counters,
+}
+
+// A head without flags; 0, which is the head of an empty node, where it would not fit.
+pub fn head(kind: u32, count: usize) -> u32 {
+    if kind <= Head::NEG && count <= 66 {
+        Head::new(kind, false, false, count).word
+    } else {
+        0
+    }
+}
+
+// A field that isn't optional; 0 where the child can't be.
 fn field(name: usize, child: u32) -> u32 {
-    if name < 65536 {
-        if child < 4096 {
-            return field_word(false, name, child);
+    if name < 65536 && child < 4096 {
+        field_word(false, name, child)
+    } else {
+        0
+    }
+}
+
+impl Arena {
+    // No node, and no memory.
+    pub fn new(alloc: Global) -> Self {
+        Arena {
+            words: Vec::new(alloc),
+            starts: Vec::new(alloc),
+            counters: Counters { nodes: 0, words: 0 },
         }
     }
-    0
-}
 
-fn set(words: &mut [u32], at: usize, value: u32) {
-    if at < words.len() {
-        words[at] = value;
+    // One more node, behind the others.
+    pub fn put(&mut self, kind: u32, body: &[u32]) -> Result<(), AllocError> {
+        let start = u32::try_from(self.words.len()).unwrap_or(u32::MAX);
+        self.starts.push(start)?;
+        self.words.push(head(kind, body.len()))?;
+        self.words.extend_from_slice(body)
     }
-}
 
-// One more node, if there is room for it.
-fn put(words: &mut [u32], starts: &mut [u32], c: Counters, kind: u32, body: &[u32]) -> Counters {
-    let n = c.nodes;
-    let at = c.words;
-    if n >= 4096 {
-        return c;
+    fn put_step(&mut self, step: Step, newest: u32) -> Result<(), AllocError> {
+        match step {
+            Step::Child(even, odd) => {
+                let kind = if newest % 2 == 0 { even } else { odd };
+                self.put(kind, &[newest])
+            }
+            Step::Field(kind) => self.put(kind, &[field(1, newest)]),
+            Step::Both(kind) => self.put(kind, &[newest, newest]),
+            Step::Param => self.put(Head::LAMBDA, &[newest, 0]),
+            Step::Body => self.put(Head::LAMBDA, &[0, newest]),
+        }
     }
-    if at >= 16384 {
-        return c;
-    }
-    if body.len() > 2 {
-        return c;
-    }
-    set(starts, n, at as u32);
-    set(words, at, head(kind, body.len()));
-    let mut i = 0;
-    while i < body.len() {
-        set(words, at + 1 + i, body[i]);
-        i += 1;
-    }
-    Counters {
-        nodes: n + 1,
-        words: at + 1 + body.len(),
-    }
-}
 
-// The number of the newest node.
-fn newest(c: Counters) -> u32 {
-    let n = c.nodes;
-    if n == 0 {
-        return 0;
+    // The nodes that are put, in so many words and starts; these are zero behind them.
+    pub fn lent(mut self, words: usize, starts: usize) -> Result<Self, AllocError> {
+        self.counters = Counters {
+            nodes: self.starts.len(),
+            words: self.words.len(),
+        };
+        self.words.resize(words, 0)?;
+        self.starts.resize(starts, 0)?;
+        Ok(self)
     }
-    if n > 4096 {
-        return 0;
-    }
-    (n - 1) as u32
-}
 
-fn in_turn(n: u32, even: u32, odd: u32) -> u32 {
-    if n % 2 == 0 {
-        return even;
+    // The nodes that are put, in as much memory as an arena can have.
+    pub fn full(self) -> Result<Self, AllocError> {
+        self.lent(WORDS, NODES)
     }
-    odd
-}
 
-fn put_step(words: &mut [u32], starts: &mut [u32], c: Counters, step: Step) -> Counters {
-    let n = newest(c);
-    match step {
-        Step::Child(even, odd) => put(words, starts, c, in_turn(n, even, odd), &[n]),
-        Step::Field(kind) => put(words, starts, c, kind, &[field(1, n)]),
-        Step::Both(kind) => put(words, starts, c, kind, &[n, n]),
-        Step::Param => put(words, starts, c, Head::LAMBDA, &[n, 0]),
-        Step::Body => put(words, starts, c, Head::LAMBDA, &[0, n]),
+    // The closed set with fields p and q, node 5: p is F[a, int], node 3, and q is node 3 or F[a, bool], node 4.
+    pub fn pair(alloc: Global, q: u32) -> Result<Self, AllocError> {
+        let mut arena = Arena::new(alloc);
+        arena.put(Head::TY_VAR, &[0])?;
+        arena.put(Head::PRIMITIVE, &[2])?;
+        arena.put(Head::PRIMITIVE, &[1])?;
+        arena.put(Head::LAMBDA, &[0, 1])?;
+        arena.put(Head::LAMBDA, &[0, 2])?;
+        arena.put(Head::ATTR_SET, &[field(0, 3), field(1, q)])?;
+        arena.full()
+    }
+
+    // What a question about the type of a root is answered, under the names p and q.
+    pub fn ask<T, F: FnOnce(&[u8], &[u32], &[u32], Counters, u32) -> T>(
+        &self,
+        root: u32,
+        question: F,
+    ) -> T
+        requires { F.IsAlwaysCallable question }
+    {
+        question(&TABLE, &self.words, &self.starts, self.counters, root)
     }
 }
 
-// The variable a, and int if the type has that too.
-fn put_leaves(words: &mut [u32], starts: &mut [u32], int: bool) -> Counters {
-    let none = Counters { nodes: 0, words: 0 };
-    let c = put(words, starts, none, Head::TY_VAR, &[0]);
-    if int {
-        return put(words, starts, c, Head::PRIMITIVE, &[2]);
+impl Chain {
+    // The chain; its root is node 4095.
+    pub fn arena(self, alloc: Global) -> Result<Arena, AllocError> {
+        let mut arena = Arena::new(alloc);
+        arena.put(Head::TY_VAR, &[0])?;
+        if self.int {
+            arena.put(Head::PRIMITIVE, &[2])?;
+        }
+        for newest in u32::from(self.int)..4095 {
+            arena.put_step(self.step, newest)?;
+        }
+        arena.full()
     }
-    c
-}
-
-// A chain over the newest node, until there are 4,096 nodes.
-fn grow(words: &mut [u32], starts: &mut [u32], leaves: Counters, step: Step) -> Counters {
-    let mut c = leaves;
-    let mut n = leaves.nodes;
-    while n < 4096 {
-        c = put_step(words, starts, c, step);
-        n += 1;
-    }
-    c
-}
-
-// A chain over the newest leaf.
-pub fn put_chain(words: &mut [u32], starts: &mut [u32], int: bool, step: Step) -> Counters {
-    let leaves = put_leaves(words, starts, int);
-    grow(words, starts, leaves, step)
-}
-
-// F[a, int] and F[a, bool], nodes 3 and 4.
-fn put_lambdas(words: &mut [u32], starts: &mut [u32]) -> Counters {
-    let c = put_leaves(words, starts, true);
-    let c = put(words, starts, c, Head::PRIMITIVE, &[1]);
-    let c = put(words, starts, c, Head::LAMBDA, &[0, 1]);
-    put(words, starts, c, Head::LAMBDA, &[0, 2])
-}
-
-// The closed set with fields p and q, of which p is F[a, int].
-pub fn put_pair(words: &mut [u32], starts: &mut [u32], q: u32) -> Counters {
-    let c = put_lambdas(words, starts);
-    put(
-        words,
-        starts,
-        c,
-        Head::ATTR_SET,
-        &[field(0, 3), field(1, q)],
-    )
 }

@@ -3,40 +3,20 @@
 #![tactic(auto)]
 
 ghost use Rattle.std.specs.Prelude.{◌≡◌, min, length, replicate};
-ghost use Rattle.types.specs.Out.{number};
 ghost use Rattle.names.specs.Inner.{Listable, Places};
 ghost use Rattle.node_store.specs.Inner.Stored.{Lent, InRange};
 ghost use Rattle.display.specs.Inner.{Prints};
-ghost use Rattle.display.specs.Reply.{print_reply, display_reply, display_nix_reply, displayed_out, left};
+ghost use Rattle.display.specs.Reply.{print_reply, display_reply, display_nix_reply, left};
 ghost use Rattle.display.specs.Inner.{Displays, DisplaysRoot};
 
 use names::find_places;
 use node_store::stored::node_at;
-use soundness::{Judged, judge};
+use soundness::judge;
 use spelling::Spelling;
 use text_writing::children::{child_of, close_child, open_child};
 use text_writing::pieces::{shown_count, write_beginning, write_ending};
-use types::Counters;
 use types::arc_ty::wide;
-
-// The length of the text, or the number of a refusal.
-#[derive(Clone, Copy)]
-pub enum Displayed {
-    Text(usize),
-    Refused(u32),
-}
-
-impl Displayed {
-    // The number of a refusal, for an answer of another type.
-    pub fn refusal(self) -> u32
-        ensures { result ≡ number (displayed_out self) }
-    {
-        match self {
-            Displayed::Text(_) => 0,
-            Displayed::Refused(number) => number,
-        }
-    }
-}
+use types::{Counters, Refusal};
 
 // The most bytes that a text may have.
 const LIMIT: usize = 65536;
@@ -45,10 +25,7 @@ const LIMIT: usize = 65536;
 fn limit_of(lent: usize) -> usize
     ensures { result ≡ min lent 65536 }
 {
-    if lent < LIMIT {
-        return lent;
-    }
-    LIMIT
+    lent.min(LIMIT)
 }
 
 // Writes the text of node n behind the first `count` bytes. A text can have exponentially many bytes: once it doesn't fit,
@@ -75,13 +52,11 @@ fn write_ty(
     let node = node_at(words, starts, c, wide(n));
     let children = shown_count(node);
     let mut end = write_beginning(table, places, spelling, node, text, count);
-    let mut i = 0;
-    while i < children {
+    for i in 0..children {
         end = open_child(table, places, spelling, words, starts, c, n, i, text, end);
         let child = child_of(words, starts, c, n, i);
         end = write_ty(table, places, spelling, words, starts, c, child, text, end);
         end = close_child(words, starts, c, n, i, text, end);
-        i += 1;
     }
     write_ending(node, text, end)
 }
@@ -90,11 +65,7 @@ fn write_ty(
 fn clear(text: &mut [u8])
     ensures { text.new ≡ replicate (length text.old) 0 }
 {
-    let mut i = 0;
-    while i < text.len() {
-        text[i] = 0;
-        i += 1;
-    }
+    text.fill(0);
 }
 
 // The text of the root's type, in an arena that is known to be sound. A text that fits is no longer than the limit.
@@ -106,7 +77,7 @@ pub fn display_in(
     c: Counters,
     root: u32,
     text: &mut [u8],
-) -> Displayed
+) -> Result<usize, Refusal>
     requires in_range { InRange words.now starts.now c root }
     requires listable { Listable table.now }
     ensures { Displays spelling table.now words.now starts.now c root
@@ -128,9 +99,9 @@ pub fn display_in(
     );
     if end > limit {
         clear(text);
-        return Displayed::Refused(9);
+        return Err(Refusal::TextTooLong);
     }
-    Displayed::Text(end)
+    Ok(end)
 }
 
 // The same after 1 and 2.
@@ -142,14 +113,14 @@ fn display_root(
     c: Counters,
     root: u32,
     text: &mut [u8],
-) -> Displayed
+) -> Result<usize, Refusal>
     requires lent { Lent words.now starts.now c }
     requires listable { Listable table.now }
     ensures { DisplaysRoot spelling table.now words.now starts.now c root text.old
         text.new result }
 {
     if wide(root) >= c.nodes {
-        return Displayed::Refused(6);
+        return Err(Refusal::NoSuchRoot);
     }
     display_in(table, spelling, words, starts, c, root, text)
 }
@@ -163,15 +134,12 @@ fn print(
     c: Counters,
     root: u32,
     text: &mut [u8],
-) -> Displayed
+) -> Result<usize, Refusal>
     ensures { left result text.new
         ≡ print_reply spelling table.now words.now starts.now c root text.old }
 {
-    let lent = judge(table, words, starts, c);
-    match lent {
-        Judged::Names(count) => display_root(table, spelling, words, starts, c, root, text),
-        Judged::Refused(number) => Displayed::Refused(number),
-    }
+    judge(table, words, starts, c)?;
+    display_root(table, spelling, words, starts, c, root, text)
 }
 
 // The text of the root's type, its names as they stand in the table.
@@ -182,7 +150,7 @@ pub fn display(
     c: Counters,
     root: u32,
     text: &mut [u8],
-) -> Displayed
+) -> Result<usize, Refusal>
     ensures { left result text.new
         ≡ display_reply table.now words.now starts.now c root text.old }
 {
@@ -197,7 +165,7 @@ pub fn display_nix(
     c: Counters,
     root: u32,
     text: &mut [u8],
-) -> Displayed
+) -> Result<usize, Refusal>
     ensures { left result text.new
         ≡ display_nix_reply table.now words.now starts.now c root text.old }
 {

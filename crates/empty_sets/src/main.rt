@@ -1,50 +1,32 @@
-// Both empty sets of document 01, displayed into lent bytes and compared with fixed byte strings.
+// Both empty sets, displayed into lent bytes and compared with fixed byte strings.
 #![tactic(auto)]
 
-use display::{Displayed, display};
-use names::compare;
+use display::display;
 use std::io;
+use types::Counters;
 use types::arc_ty::Head;
-use types::{Counters, Ordering};
-
-// Whether the first `length` bytes are the expected ones.
-fn begins(text: &[u8], length: usize, expected: &[u8]) -> bool {
-    if length > text.len() {
-        return false;
-    }
-    let order = compare(&text[..length], expected);
-    let Ordering::Equal = order else {
-        return false;
-    };
-    true
-}
 
 // Whether the set without fields, closed or open and alone in an arena, is displayed as this text.
-fn shows(open: bool, expected: &[u8]) -> bool {
+fn shows(open: bool, expected: &str) -> bool {
     let words = [Head::new(Head::ATTR_SET, open, false, 0).word];
     let starts = [0u32; 1];
     let c = Counters { nodes: 1, words: 1 };
     let mut text = [0u8; 16];
-    let answer = display(&[], &words, &starts, c, 0, &mut text);
-    let Displayed::Text(length) = answer else {
-        return false;
-    };
-    begins(&text, length, expected)
+    match display(&[], &words, &starts, c, 0, &mut text) {
+        Ok(length) => text.get(..length) == Some(expected.as_bytes()),
+        Err(_) => false,
+    }
 }
 
 // A line: the set, the text that it is compared with, and what comes of it.
 fn tell(rt: &impl Print, open: bool, expected: &str) -> io::Result<()> {
-    if open {
-        print!(rt; "open, ")?;
+    let set = if open { "open" } else { "closed" };
+    let outcome = if shows(open, expected) {
+        "the same"
     } else {
-        print!(rt; "closed, ")?;
-    }
-    print!(rt; "{expected}")?;
-    if shows(open, expected.as_bytes()) {
-        println!(rt; ": the same")
-    } else {
-        println!(rt; ": another text")
-    }
+        "another text"
+    };
+    println!(rt; "{set}, {expected}: {outcome}")
 }
 
 fn main(rt: HostRuntime) -> io::Result<()> {

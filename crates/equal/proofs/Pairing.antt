@@ -6,8 +6,7 @@ use mathlib.Core.List.{List}
 use mathlib.Core.Logic.{◌⊎◌, inl, inr}
 use native.Mathlib.Decide.{ℕ_discrete}
 use native.Mathlib.Omega.{arith}
-use lib.ListN.{length, get_or, set, length-set}
-use lib.Seq.{get_or-set_same, get_or-set_other}
+use lib.ListN.{length, get_or}
 use lib.Dec.{eqb}
 use borrow.Author.Tests.{eqb-true, eqb-false, not-true, not-false}
 use Rattle.words.specs.Words.{child}
@@ -15,35 +14,12 @@ use Rattle.types.specs.Fault.{children_in}
 use Rattle.types.proofs.Tests.{true_false}
 use Rattle.node_store.specs.Inner.Children.{ChildWords}
 use Rattle.node_store.proofs.Offspring.{as_many, child_is, child_small}
-use Rattle.equal.specs.Inner.Pairs.{Pair, Fit, Gives, Beside, Level, GivesAll}
+use Rattle.equal.specs.Inner.Pairs.{Pair, Fit, Gives, Beside, GivesAll}
 
 -- ---- one pair
 module _ {ps : List ℕ} {k p : ℕ} (F : Fit ps k p) where
-  new_at : (z : get_or ps k 0 ≡ 0) → Gives ps k p (set ps k (p + 1)) true
-  new_at z = record { long = length-set ps k (p + 1); kept = kept; only = only; given = λ e. new; other = λ e. absurd (true_false e) }
-    where
-      new : get_or (set ps k (p + 1)) k 0 ≡ p + 1
-      new = get_or-set_same ps k (p + 1) 0 (omega (arith, F.long, F.left))
-
-      kept : (j q : ℕ) → Pair ps j q → Pair (set ps k (p + 1)) j q
-      kept j q e = go (ℕ_discrete j k)
-        where
-          go : Dec (j ≡ k) → Pair (set ps k (p + 1)) j q
-          go (yes f) = let g = ap (λ (i : ℕ). get_or ps i 0) f in absurd (omega (arith, e, z, g))
-          go (no f) = get_or-set_other ps k j (p + 1) 0 f ∙ e
-
-      only : (j q : ℕ) → Pair (set ps k (p + 1)) j q → Pair ps j q ⊎ ((j ≡ k) × (q ≡ p))
-      only j q e = go (ℕ_discrete j k)
-        where
-          go : Dec (j ≡ k) → Pair ps j q ⊎ ((j ≡ k) × (q ≡ p))
-          go (yes f) = let g = ap (λ (i : ℕ). get_or (set ps k (p + 1)) i 0) f in inr (f, omega (arith, e, new, g))
-          go (no f) = inl (sym (get_or-set_other ps k j (p + 1) 0 f) ∙ e)
-
   -- what the entry says, and the number that is given, as they are read
   module _ {i t x : ℕ} (e : i ≡ k) (r : t ≡ get_or ps i 0) (n : x ≡ p) where
-    pub pair_new : t ≡ 0 → Gives ps k p (set ps i (x + 1)) true
-    pair_new z = subst (λ (j : ℕ). Gives ps k p (set ps i (j + 1)) true) (sym n) (subst (λ (j : ℕ). Gives ps k p (set ps j (p + 1)) true) (sym e) (new_at (ap (λ (j : ℕ). get_or ps j 0) (sym e) ∙ sym r ∙ z)))
-
     pub pair_told : (t ≡ 0 → ⊥) → Gives ps k p ps (eqb t (x + 1))
     pair_told f =
         let at : t ≡ get_or ps k 0 = r ∙ ap (λ (j : ℕ). get_or ps j 0) e in
@@ -70,25 +46,9 @@ pub record Giving (v w bs cs ps qs : List ℕ) (i : ℕ) : Type 0 where
   pub given : (x : ℕ) → x < i → Pair qs (get_or (children_in v) x 0) (get_or (children_in w) x 0)
 
 module _ {v w bs cs ps : List ℕ} where
-  pub giving_start : Level v w ps → ChildWords v bs → ChildWords w cs → Giving v w bs cs ps ps 0
-  giving_start L B C = record {
-    left = B;
-    right = C;
-    level = L.count;
-    room = L.long;
-    long = refl;
-    turn = omega arith;
-    kept = λ j q h. h;
-    only = λ j q h. inl h;
-    given = λ x l. absurd (omega arith);
-  }
-
   module _ {qs : List ℕ} {i : ℕ} (G : Giving v w bs cs ps qs i) where
     in_left : i < length bs → i < length (children_in v)
     in_left l = omega (arith, as_many G.left)
-
-    pub giving_right : i < length bs → i < length cs
-    giving_right l = omega (arith, as_many G.left, G.level, as_many G.right)
 
     module _ (l : i < length bs) {m n : ℕ} (x : m ≡ child (get_or bs i 0)) (y : n ≡ child (get_or cs i 0)) where
       e : m ≡ get_or (children_in v) i 0
@@ -139,13 +99,3 @@ module _ {v w bs cs ps : List ℕ} where
                 go : Dec (x ≡ i) → Pair rs (get_or (children_in v) x 0) (get_or (children_in w) x 0)
                 go (yes r) = subst (λ (y : ℕ). Pair rs (get_or (children_in v) y 0) (get_or (children_in w) y 0)) (sym r) now_given
                 go (no r) = H.kept _ _ (G.given x (omega arith))
-
-    pub giving_done : length bs ≤ i → GivesAll (children_in v) (children_in w) ps qs true
-    giving_done h = record {
-      long = G.long;
-      kept = G.kept;
-      only = G.only;
-      given = λ e j q B.
-          ap (λ (y : ℕ). get_or qs y 0) B.left ∙ G.given B.index (omega (arith, B.inside, as_many G.left)) ∙ ap (λ (y : ℕ). y + 1) (sym B.right);
-      clash = λ e. absurd (true_false e);
-    }

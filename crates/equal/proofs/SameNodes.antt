@@ -4,8 +4,7 @@ use mathlib.Core.Path.{◌≡◌, refl, sym, ap, ap₂, ◌∙◌}
 use mathlib.Core.Bool.{Bool, true, false}
 use mathlib.Core.List.{List, [], map}
 use native.Mathlib.Omega.{arith}
-use lib.ListN.{length, get_or, take, drop, length-drop}
-use lib.Seq.{length-take-le}
+use lib.ListN.{length, get_or, take, drop}
 use lib.Dec.{eqb}
 use borrow.Author.Tests.{eqb-true, eq-eqb}
 use Rattle.words.specs.Words.{head_word, head_kind, head_open, head_dynamic}
@@ -180,15 +179,3 @@ module _ (ks v w : List ℕ) (long : length v ≡ length w) (heads : get_or v 0 
           q ∙ (λ i. same_fields ks (take (one i) (bx i)) (take (one i) (by i)))
           ∙ fields_alike ns ms ks M x y g h H.kinds H.dynamics H.opens (omega (arith, l, kind_there x e g.formed_so c)) H.lengths m f;
     }
-
-  module _ {m : ℕ} (F : FieldCount (get_or v 0 0) (length v - 1) m) (some_word : 0 < length v) where
-    pub fields_inside : m + 1 ≤ length v
-    fields_inside = omega (arith, F.within)
-
-    pub fields_inside_right : m + 1 ≤ length w
-    fields_inside_right = omega (arith, F.within, long)
-
-    pub fields_as_many : length (take (m + 1 - 1) (drop 1 v)) ≡ length (take (m + 1 - 1) (drop 1 w))
-    fields_as_many =
-        length-take-le (m + 1 - 1) (drop 1 v) (omega (arith, F.within, length-drop 1 v))
-        ∙ sym (length-take-le (m + 1 - 1) (drop 1 w) (omega (arith, F.within, long, length-drop 1 w)))

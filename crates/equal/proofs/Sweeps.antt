@@ -18,7 +18,7 @@ use Rattle.types.proofs.Sound.{child_lower}
 use Rattle.equal.specs.Equal.{tree, tree_dec, equal}
 use Rattle.name_matching.specs.Inner.{Maps, Blank}
 use Rattle.soundness.specs.Inner.Sides.{Side}
-use Rattle.equal.specs.Inner.Pairs.{Pair, Mapped, Matched, Agreeing, Below, Visit, Visiting, Visited, Fresh, Decides, Roots, Tells}
+use Rattle.equal.specs.Inner.Pairs.{Pair, Mapped, Matched, Agreeing, Below, Visit, Visited, Fresh, Decides, Roots, Tells}
 use Rattle.name_matching.proofs.Merging.{blank}
 use Rattle.equal.proofs.Descending.{child_trees, alike_trees, side_small}
 
@@ -68,9 +68,6 @@ module _ {ks w s : List ℕ} {c : Counters} {m : ℕ} {v r : List ℕ} {d : Coun
   pub root_place : Fits w64 (m * 2)
   root_place = omega (arith, side_small F.sides.left F.left_inside)
 
-  pub root_next : Fits w64 (m + 1)
-  root_next = omega (arith, side_small F.sides.left F.left_inside)
-
   pub root_small : m < 4096
   root_small = side_small F.sides.left F.left_inside
 
@@ -106,9 +103,6 @@ module _ {ks w s : List ℕ} {c : Counters} {m : ℕ} {v r : List ℕ} {d : Coun
 
     in_right : (j q : ℕ) → Pair ps j q → q < length X.right.view
     in_right j q h = let l = S.right_in j q h in omega (arith, l, X.right.holds.nodes)
-
-  pub sweep_visit : 0 < k → Visiting ks w s c v r d (k - 1) ps
-  sweep_visit h = record { sides = S.sides; inside = omega (arith, S.high, S.left_inside); partners = S.right_in; long = S.long }
 
   module _ (h : 0 < k) {qs : List ℕ} {o : Bool} (W : Visited ks w s c v r d (k - 1) ps qs o) where
     pub sweep_refuted : not o ≡ true → Decides ks w s c m v r d n false

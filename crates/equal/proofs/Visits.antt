@@ -28,19 +28,7 @@ module _ {ks w s : List ℕ} {c : Counters} {v r : List ℕ} {d : Counters} {n :
   pub visit_small : n < 4096
   visit_small = side_small V'.sides.left V'.inside
 
-  pub visit_map : length ks ≡ 4096
-  visit_map = V'.sides.matches.long
-
-  pub visit_left : InRange w s c n
-  visit_left = record { lent = side_lent V'.sides.left; inside = V'.inside }
-
   module _ {x : ℕ} (e : x ≡ get_or ps n 0) where
-    -- no partner: nothing is asked
-    pub visit_none : x ≡ 0 → Visited ks w s c v r d n ps ps true
-    visit_none z = record {
-      is = λ X. record { long = refl; kept = λ j q h. h; only = λ j q h. inl h; matched = λ h p g. absurd (omega (arith, e, z, g)); refuted = λ h. absurd (true_false h) };
-    }
-
     module _ (f : x ≡ 0 → ⊥) where
       there : Pair ps n (x - 1)
       there = omega (arith, e, f)

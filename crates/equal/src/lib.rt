@@ -6,16 +6,14 @@ mod node_data;
 mod pairs;
 
 ghost use Rattle.std.specs.Prelude.{◌≡◌};
-ghost use Rattle.questions.specs.Vars.{asked_out};
 ghost use Rattle.soundness.specs.Inner.Sides.{Side};
 ghost use Rattle.equal.specs.Inner.Pairs.{Sides, Answers, RightAnswers};
 ghost use Rattle.equal.specs.Reply.{equal_reply};
 
 use pairs::agree;
-use questions::vars::Asked;
-use soundness::{Judged, judge};
-use types::Counters;
+use soundness::judge;
 use types::arc_ty::wide;
+use types::{Counters, Refusal};
 
 // Whether the roots are equal, in arenas that are known to be sound.
 fn equal_in(
@@ -29,17 +27,17 @@ fn equal_in(
     right_starts: &[u32],
     right: Counters,
     right_root: usize,
-) -> Asked
+) -> Result<bool, Refusal>
     requires { Sides left_table.now left_words.now left_starts.now left right_table.now right_words.now
         right_starts.now right }
     ensures { Answers left_table.now left_words.now left_starts.now left left_root
-        right_table.now right_words.now right_starts.now right right_root (asked_out result) }
+        right_table.now right_words.now right_starts.now right right_root result }
 {
     if left_root >= left.nodes {
-        return Asked::Refused(6);
+        return Err(Refusal::NoSuchRoot);
     }
     if right_root >= right.nodes {
-        return Asked::Refused(6);
+        return Err(Refusal::NoSuchRoot);
     }
     let equal = agree(
         left_table,
@@ -53,7 +51,7 @@ fn equal_in(
         right,
         right_root,
     );
-    Asked::Is(equal)
+    Ok(equal)
 }
 
 // The same, in a right arena that isn't known to be sound.
@@ -68,27 +66,24 @@ fn equal_right(
     right_starts: &[u32],
     right: Counters,
     right_root: u32,
-) -> Asked
+) -> Result<bool, Refusal>
     requires { Side left_table.now left_words.now left_starts.now left }
     ensures { RightAnswers left_table.now left_words.now left_starts.now left left_root
-        right_table.now right_words.now right_starts.now right right_root (asked_out result) }
+        right_table.now right_words.now right_starts.now right right_root result }
 {
-    let lent = judge(right_table, right_words, right_starts, right);
-    match lent {
-        Judged::Names(count) => equal_in(
-            left_table,
-            left_words,
-            left_starts,
-            left,
-            wide(left_root),
-            right_table,
-            right_words,
-            right_starts,
-            right,
-            wide(right_root),
-        ),
-        Judged::Refused(number) => Asked::Refused(number),
-    }
+    judge(right_table, right_words, right_starts, right)?;
+    equal_in(
+        left_table,
+        left_words,
+        left_starts,
+        left,
+        wide(left_root),
+        right_table,
+        right_words,
+        right_starts,
+        right,
+        wide(right_root),
+    )
 }
 
 // Whether the type of the left root, in the left arena, is structurally equal to that of the right root in the right arena.
@@ -103,25 +98,22 @@ pub fn structurally_eq(
     right_starts: &[u32],
     right: Counters,
     right_root: u32,
-) -> Asked
-    ensures { asked_out result
+) -> Result<bool, Refusal>
+    ensures { result
         ≡ equal_reply left_table.now left_words.now left_starts.now left left_root
         right_table.now right_words.now right_starts.now right right_root }
 {
-    let lent = judge(left_table, left_words, left_starts, left);
-    match lent {
-        Judged::Names(count) => equal_right(
-            left_table,
-            left_words,
-            left_starts,
-            left,
-            left_root,
-            right_table,
-            right_words,
-            right_starts,
-            right,
-            right_root,
-        ),
-        Judged::Refused(number) => Asked::Refused(number),
-    }
+    judge(left_table, left_words, left_starts, left)?;
+    equal_right(
+        left_table,
+        left_words,
+        left_starts,
+        left,
+        left_root,
+        right_table,
+        right_words,
+        right_starts,
+        right,
+        right_root,
+    )
 }

@@ -28,14 +28,7 @@ fn same_fields(names: &[u32; 4096], e: &[u32], f: &[u32]) -> bool
     requires e_len { length e.now ≡ length f.now }
     ensures { result ≡ same_fields names.now e.now f.now }
 {
-    let mut i = 0;
-    while i < e.len() {
-        if !same_field(names, e[i], f[i]) {
-            return false;
-        }
-        i += 1;
-    }
-    true
+    e.iter().zip(f).all(|(v, w)| same_field(names, *v, *w))
 }
 
 // The word after the head, 0 where there is none.

@@ -12,20 +12,13 @@ use node_store::stored::node_at;
 use types::Counters;
 use types::arc_ty::{child, wide};
 
-// An entry as a count. An element behind a reference to an array says nothing of its range; a parameter does.
-fn entry(x: u16) -> usize
-    ensures { result ≡ x }
-{
-    x as usize
-}
-
 // Gives the node `left` the partner `right` if it has none; false where it has another. A partner is its number and one.
 fn pair(partners: &mut [u16; 4096], left: u32, right: u32) -> bool
     requires { Fit partners.old left right }
     ensures { Gives partners.old left right partners.new result }
 {
     let at = wide(left);
-    let there = entry(partners[at]);
+    let there = usize::from(partners[at]);
     let next = wide(right) + 1;
     if there == 0 {
         partners[at] = next as u16;
@@ -40,14 +33,11 @@ fn pair_children(a: &[u32], b: &[u32], partners: &mut [u16; 4096]) -> bool
     ensures { GivesAll (children_in a.now) (children_in b.now) partners.old
         partners.new result }
 {
-    let left = child_words(a);
     let right = child_words(b);
-    let mut i = 0;
-    while i < left.len() {
-        if !pair(partners, child(left[i]), child(right[i])) {
+    for (i, word) in child_words(a).iter().enumerate() {
+        if !pair(partners, child(*word), child(right[i])) {
             return false;
         }
-        i += 1;
     }
     true
 }
@@ -57,7 +47,7 @@ fn partner_of(partners: &[u16; 4096], n: usize) -> usize
     requires { n < 4096 }
     ensures { result ≡ get_or partners.now n 0 }
 {
-    entry(partners[n])
+    usize::from(partners[n])
 }
 
 // Compares node n of the left with its partner, if it has one, and pairs their children; false where the two can't be equal.
@@ -109,9 +99,7 @@ fn sweep(
 {
     let next = right_root + 1;
     partners[left_root] = next as u16;
-    let mut n = left_root + 1;
-    while n > 0 {
-        n -= 1;
+    for n in (0..left_root + 1).rev() {
         if !visit(
             names,
             left_words,

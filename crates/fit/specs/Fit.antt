@@ -1,7 +1,8 @@
 -- The line of the program `fit` (02, A5). Its input is a length of 32 bits, a sheet of that many bytes, then a fix to the end, all most
 -- significant byte first.
-use Rattle.std.specs.Prelude.{ℕ, ◌*◌, ◌/◌, ◌%◌, ◌≤◌, ◌≡◌, Bool, true, false, List, ◌++◌, length, drop, eqb, leb}
-use Rattle.types.specs.Out.{Out, ok, refuse, ◌>>=◌}
+use Rattle.std.specs.Prelude.{ℕ, ◌*◌, ◌/◌, ◌%◌, ◌≤◌, ◌≡◌, Bool, true, false, List, ◌++◌, length, drop, eqb, leb, Ok, Err}
+use Rattle.types.specs.declared.refusal.Refusal.TheVariants as refusal
+use Rattle.types.specs.Out.{Out, ◌>>=◌}
 use Rattle.types.specs.Bytes.{bytes}
 use Rattle.sheet_reading.specs.Sheet.{Sheet, several, number, words, read_sheet, read_sheet_in}
 use Rattle.sheet_format.specs.Line.{refused_line}
@@ -11,8 +12,8 @@ use Rattle.fits.specs.Fits.{fits_root}
 unfoldable pub fix_words : List ℕ → Out (List ℕ)
 unfolding words
 fix_words bs = elim (leb (length bs) (4 * 131072)) [
-  | false ↦ refuse 10
-  | true ↦ elim (eqb (length bs % 4) 0) [ false ↦ refuse 13 | true ↦ ok (words (length bs / 4) bs) ]
+  | false ↦ Err refusal.MalformedSheet
+  | true ↦ elim (eqb (length bs % 4) 0) [ false ↦ Err refusal.MalformedFix | true ↦ Ok (words (length bs / 4) bs) ]
 ]
 
 -- whether the fix in these bytes fits the type of the sheet's root, which isn't simplified
@@ -29,16 +30,16 @@ sheet_answer sheet bs = read_sheet sheet >>= fix_answer bs
 unfoldable pub fit_answer : List ℕ → Out Bool
 unfolding number several sheet_answer ◌>>=◌
 fit_answer input = number 4 input >>= λ (n : ℕ × List ℕ). elim (leb n.0 65536) [
-  | false ↦ refuse 10
+  | false ↦ Err refusal.MalformedSheet
   | true ↦ several n.0 n.1 >>= λ (r : List ℕ × List ℕ). sheet_answer r.0 r.1
 ]
 
 -- yes, no, or the refusal as of a sheet
 unfoldable pub answer_line : Out Bool → List ℕ
 unfolding refused_line
-answer_line (ok true) = bytes "yes\n"
-answer_line (ok false) = bytes "no\n"
-answer_line (refuse e) = refused_line e
+answer_line (Ok true) = bytes "yes\n"
+answer_line (Ok false) = bytes "no\n"
+answer_line (Err e) = refused_line e
 
 unfoldable pub fit_line : List ℕ → List ℕ
 unfolding answer_line fit_answer

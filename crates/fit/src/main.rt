@@ -4,22 +4,20 @@
 #![tactic(auto)]
 
 ghost use Rattle.std.specs.Prelude.{◌≡◌};
-ghost use Rattle.questions.specs.Vars.{asked_out};
 ghost use Rattle.fit.specs.Fit.{sheet_answer, fit_answer, WritesFit};
 ghost use Rattle.fit.specs.Inner.{SheetIn, AnswersFix, WritesAnswer};
 
 use appending::append;
 use fits::fits;
 use program_io::read_full;
-use questions::vars::Asked;
 use sheet_format::write_refusal;
 use sheet_reading::bytes::word;
 use sheet_reading::nodes::copy_words;
-use sheet_reading::{Reading, read_sheet};
+use sheet_reading::read_sheet;
 use std::io;
 use std::io::Write;
-use types::Counters;
 use types::arc_ty::wide;
+use types::{Counters, Refusal};
 use words::Layout;
 
 // Whether the fix in these bytes fits the type of a sheet, which stands in memory with its table.
@@ -30,63 +28,67 @@ fn answer_fix(
     c: Counters,
     root: u32,
     bytes: &[u8],
-) -> Asked
+) -> Result<bool, Refusal>
     requires { SheetIn table.now words.now starts.now c root }
     ensures { AnswersFix table.now words.now starts.now c root bytes.now
-        (asked_out result) }
+        result }
 {
     if bytes.len() > 524288 {
-        return Asked::Refused(10);
+        return Err(Refusal::MalformedSheet);
     }
     if bytes.len() % 4 != 0 {
-        return Asked::Refused(13);
+        return Err(Refusal::MalformedFix);
     }
+    // An array: the contract has no case for memory that runs out.
     let mut fix = [0u32; 131072];
     let count = copy_words(bytes, &mut fix);
     fits(table, words, starts, c, root, &fix[..count])
 }
 
 // The same of a sheet and a fix in their bytes.
-fn answer_sheet(sheet: &[u8], bytes: &[u8]) -> Asked
-    ensures { asked_out result ≡ sheet_answer sheet.now bytes.now }
+fn answer_sheet(sheet: &[u8], bytes: &[u8]) -> Result<bool, Refusal>
+    ensures { result ≡ sheet_answer sheet.now bytes.now }
 {
+    // Arrays, for the same reason.
     let mut words = [0u32; 16384];
     let mut starts = [0u32; 4096];
-    let reading = read_sheet(Layout::New, sheet, &mut words, &mut starts);
-    let Reading::Sheet(end, c, root) = reading else {
-        return Asked::Refused(reading.refusal());
-    };
-    answer_fix(&sheet[6..end], &words, &starts, c, root, bytes)
+    let read = read_sheet(Layout::New, sheet, &mut words, &mut starts)?;
+    let end = read.end;
+    answer_fix(
+        &sheet[6..end],
+        &words,
+        &starts,
+        read.counters,
+        read.root,
+        bytes,
+    )
 }
 
 // The same of the whole input.
-fn answer(input: &[u8]) -> Asked
-    ensures { asked_out result ≡ fit_answer input.now }
+fn answer(input: &[u8]) -> Result<bool, Refusal>
+    ensures { result ≡ fit_answer input.now }
 {
     if input.len() < 4 {
-        return Asked::Refused(10);
+        return Err(Refusal::MalformedSheet);
     }
     let length = wide(word(input, 0));
     if length > 65536 {
-        return Asked::Refused(10);
+        return Err(Refusal::MalformedSheet);
     }
     if input.len() - 4 < length {
-        return Asked::Refused(10);
+        return Err(Refusal::MalformedSheet);
     }
     let end = 4 + length;
     answer_sheet(&input[4..end], &input[end..])
 }
 
-fn write_answer(line: &mut [u8], answer: Asked) -> usize
-    ensures { WritesAnswer line.old (asked_out answer) line.new result }
+fn write_answer(line: &mut [u8], answer: Result<bool, Refusal>) -> usize
+    ensures { WritesAnswer line.old answer line.new result }
 {
     match answer {
-        Asked::Refused(number) => write_refusal(line, number),
-        Asked::Is(yes) => if yes {
-            append(line, 0, b"yes\n")
-        } else {
-            append(line, 0, b"no\n")
-        },
+        Ok(true) => append(line, 0, b"yes\n"),
+        Ok(false) => append(line, 0, b"no\n"),
+        Err(refusal) => write_refusal(line, refusal),
     }
 }
 

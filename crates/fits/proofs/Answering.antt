@@ -6,7 +6,10 @@ use mathlib.Core.List.{List}
 use mathlib.Core.Option.{Option}
 use native.Mathlib.Omega.{arith}
 use lib.ListN.{length, replicate, length-replicate}
-use Rattle.types.specs.Out.{Out, ok, refuse, required}
+use Rattle.std.specs.Prelude.{Ok, Err}
+use Rattle.types.specs.declared.refusal.Refusal.{Refusal}
+use Rattle.types.specs.declared.refusal.Refusal.TheVariants as refusal
+use Rattle.types.specs.Out.{Out, required}
 use Rattle.types.specs.Arena.{Arena}
 use Rattle.types.specs.Memory.{Holds}
 use Rattle.types.specs.Reply.{judged}
@@ -15,9 +18,7 @@ use Rattle.types.proofs.Replies.{tabled_yes, judged_yes, rooted_no, rooted_yes}
 use Rattle.names.specs.Table.{Name, names_of}
 use Rattle.node_store.specs.Inner.Stored.{Lent}
 use Rattle.soundness.specs.Lent.{lent_to}
-use Rattle.soundness.specs.Inner.Sound.{lent_reply, judged_out}
-use Rattle.soundness.specs.declared.Judged.{Judged}
-use Rattle.soundness.specs.declared.Judged.TheVariants as verdict
+use Rattle.soundness.specs.Inner.Sound.{lent_reply}
 use Rattle.soundness.proofs.Verdicts.{lent_names, lent_refused}
 use Rattle.walks.specs.Inner.Asked.{Says}
 use Rattle.questions.specs.Vars.{has_var}
@@ -38,17 +39,17 @@ places_long C = C.long
 module _ (table : ℕ) (root : ℕ) (ws : List ℕ) where
   -- what follows 6
   abbrev after : Arena → Out Bool
-  after a = required 13 (fix_of table ws) (fits_type a root)
+  after a = required refusal.MalformedFix (fix_of table ws) (fits_type a root)
 
-  fixed : (a : Arena) {o : Option Fix} → fix_of table ws ≡ o → after a ≡ required 13 o (fits_type a root)
-  fixed a e = ap (λ (o : Option Fix). required 13 o (fits_type a root)) e
+  fixed : (a : Arena) {o : Option Fix} → fix_of table ws ≡ o → after a ≡ required refusal.MalformedFix o (fits_type a root)
+  fixed a e = ap (λ (o : Option Fix). required refusal.MalformedFix o (fits_type a root)) e
 
-  typed : (a : Arena) (f : Fix) {b : Bool} → has_var false a root ≡ b → fits_type a root f ≡ elim b as (λ _. Out Bool) [ true ↦ refuse 14 | false ↦ ok (fits f a root) ]
+  typed : (a : Arena) (f : Fix) {b : Bool} → has_var false a root ≡ b → fits_type a root f ≡ elim b as (λ _. Out Bool) [ true ↦ Err refusal.HasVariable | false ↦ Ok (fits f a root) ]
   unfolding fits_type
-  typed a f e = λ i. elim (e i) as (λ _. Out Bool) [ true ↦ refuse 14 | false ↦ ok (fits f a root) ]
+  typed a f e = λ i. elim (e i) as (λ _. Out Bool) [ true ↦ Err refusal.HasVariable | false ↦ Ok (fits f a root) ]
 
   module _ {w s : List ℕ} {c : Counters} where
-    pub no_root : c.nodes ≤ root → FitsIn table w s c root ws (refuse 6)
+    pub no_root : c.nodes ≤ root → FitsIn table w s c root ws (Err refusal.NoSuchRoot)
     unfolding fits_root
     no_root h = record { is = λ k a H. sym (rooted_no root after a (omega (arith, H.nodes))) }
 
@@ -58,12 +59,12 @@ module _ (table : ℕ) (root : ℕ) (ws : List ℕ) where
       rooted_so I = record { is = λ k a H. I k a H ∙ sym (rooted_yes root after a (subst (λ (n : ℕ). root < n) H.nodes l)) }
 
       module _ {ps : List ℕ} {n : ℕ} (C : Checks table ws ps n) where
-        pub no_fix : n ≡ 0 → FitsIn table w s c root ws (refuse 13)
+        pub no_fix : n ≡ 0 → FitsIn table w s c root ws (Err refusal.MalformedFix)
         unfolding required
         no_fix e = rooted_so (λ k a H. sym (fixed a (C.broken e)))
 
         module _ (z : n ≡ 0 → ⊥) where
-          pub has_variable : {b : Bool} → Says (has_var false) w s c root b → b ≡ true → FitsIn table w s c root ws (refuse 14)
+          pub has_variable : {b : Bool} → Says (has_var false) w s c root b → b ≡ true → FitsIn table w s c root ws (Err refusal.HasVariable)
           unfolding required
           has_variable S e = let (f, F) = C.fix z in rooted_so (λ k a H. sym (fixed a F.is ∙ typed a f (sym (S.is k a H) ∙ e)))
 
@@ -73,23 +74,23 @@ module _ (table : ℕ) (root : ℕ) (ws : List ℕ) where
               let (p, q) = held_few F in
               record { range = record { lent = L; inside = l }; table = table; view = f; holds = F; some_value = p; few = q }
 
-          pub decided : {b : Bool} → Says (has_var false) w s c root b → b ≡ false → {r : Bool} → Decides w s c root ws ps n r → FitsIn table w s c root ws (ok r)
+          pub decided : {b : Bool} → Says (has_var false) w s c root b → b ≡ false → {r : Bool} → Decides w s c root ws ps n r → FitsIn table w s c root ws (Ok r)
           unfolding required
-          decided S e D = let (f, F) = C.fix z in rooted_so (λ k a H. ap ok (D.is k a H table f F) ∙ sym (fixed a F.is ∙ typed a f (sym (S.is k a H) ∙ e)))
+          decided S e D = let (f, F) = C.fix z in rooted_so (λ k a H. ap Ok (D.is k a H table f F) ∙ sym (fixed a F.is ∙ typed a f (sym (S.is k a H) ∙ e)))
 
 -- ---- in any memory
 abbrev going_on : ℕ → List ℕ → List Name → Arena → Out Bool
 going_on root ws ns = fits_root (length ns) root ws
 
-module _ (t w s : List ℕ) (c : Counters) (root : ℕ) (ws : List ℕ) {r : Judged} (e : judged_out r ≡ lent_reply t w s c) where
-  pub fits_refused : {k : ℕ} → r ≡ verdict.Refused k → refuse k ≡ fits_reply t w s c root ws
+module _ (t w s : List ℕ) (c : Counters) (root : ℕ) (ws : List ℕ) where
+  pub fits_refused : {e : Refusal} → Err e ≡ lent_reply t w s c → Err e ≡ fits_reply t w s c root ws
   unfolding fits_reply lent_to
-  fits_refused p = sym (lent_refused t w s c e (going_on root ws) p)
+  fits_refused e = lent_refused t w s c (going_on root ws) e
 
-  pub fits_done : {k x : ℕ} {o : Out Bool} → r ≡ verdict.Names k → x ≡ root → FitsIn k w s c x ws o → o ≡ fits_reply t w s c root ws
+  pub fits_done : {k x : ℕ} {o : Out Bool} → Ok k ≡ lent_reply t w s c → x ≡ root → FitsIn k w s c x ws o → o ≡ fits_reply t w s c root ws
   unfolding fits_reply lent_to
-  fits_done {k} p u I =
-      let L = lent_names t w s c e p in
+  fits_done {k} e u I =
+      let L = lent_names t w s c e in
       let H : Holds (length L.names) w s c L.view = subst (λ (i : ℕ). Holds i w s c L.view) L.count L.holds in
       I.is k L.view L.holds
       ∙ (λ i. fits_root (L.count i) (u i) ws L.view)

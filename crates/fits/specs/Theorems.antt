@@ -1,8 +1,9 @@
 -- What is shown of the call beyond its contract.
-use Rattle.std.specs.Prelude.{ℕ, ◌-◌, ◌≡◌, Bool, true, false, List, [], length, get_or}
+use Rattle.std.specs.Prelude.{ℕ, ◌-◌, ◌≡◌, Bool, true, false, List, [], length, get_or, Ok, Err}
 use Rattle.std.proofs.Math.Option.{some}
 use Rattle.types.specs.Bytes.{bytes}
-use Rattle.types.specs.Out.{Out, ok, refuse}
+use Rattle.types.specs.declared.refusal.Refusal.TheVariants as refusal
+use Rattle.types.specs.Out.{Out}
 use Rattle.types.specs.Arena.{Arena}
 use Rattle.types.specs.Memory.{Holds}
 use Rattle.types.specs.declared.Counters.{Counters}
@@ -30,7 +31,7 @@ abbrev pub NoFixWithoutName : Name → Type 0
 NoFixWithoutName x =
     (t w s : List ℕ) (c : Counters) (ns : List Name) (a : Arena) (root : ℕ) (ws : List ℕ) (f : Fix) → names_of t ≡ some ns
     → Holds (length ns) w s c a → fix_of (length ns) ws ≡ some f → DemandsName ns a root x → LacksName ns f x
-    → fits_reply t w s c root ws ≡ elim (has_type_vars a root) as (λ _. Out Bool) [ true ↦ refuse 14 | false ↦ ok false ]
+    → fits_reply t w s c root ws ≡ elim (has_type_vars a root) as (λ _. Out Bool) [ true ↦ Err refusal.HasVariable | false ↦ Ok false ]
 
 -- so a fix without `roll` never fits a type that demands it
 abbrev pub NoFixWithoutRoll : Type 0

@@ -1,6 +1,6 @@
 -- Rows from node 0 up: each node's row is right since its children's are, and its last is the root's.
 use Prim.Native.Nat.{ℕ, ◌+◌, ◌-◌, ◌*◌, ◌/◌, ◌%◌, ◌≤◌, ◌<◌}
-use mathlib.Core.Path.{◌≡◌, refl, sym, ap, ◌∙◌, subst}
+use mathlib.Core.Path.{◌≡◌, sym, ap, ◌∙◌, subst}
 use mathlib.Core.Bool.{Bool}
 use mathlib.Core.List.{List}
 use native.Mathlib.Omega.{arith}
@@ -23,7 +23,7 @@ use Rattle.fix_values.proofs.Checking.{held_well}
 use Rattle.fitting.specs.Fits.{node_takes, takes, fits}
 use Rattle.fitting.specs.Inner.Rows.{pair, HasRow, HasPair}
 use Rattle.fitting.specs.Inner.Taken.{Against, RowOf}
-use Rattle.fitting.specs.Inner.Pairs.{row_width, Storing, Stores, Decidable, Rowed, Decides}
+use Rattle.fitting.specs.Inner.Pairs.{row_width, Stores, Decidable, Rowed, Decides}
 use Rattle.fitting.proofs.Joining.{pair_word}
 use Rattle.fitting.proofs.Agreeing.{agree_map, node_agree, children_few}
 
@@ -52,19 +52,6 @@ pub record Deciding (w s : List ℕ) (c : Counters) (root : ℕ) (fix places : L
   pub known : (table : ℕ) (a : Arena) → Holds table w s c a → (t : ℕ) (f : Fix) → FixIn t fix places count f → (m v : ℕ) → m < n → v < count → pair ps width m v ≡ takes f a m v
 
 module _ {w s : List ℕ} {c : Counters} {root : ℕ} {fix places : List ℕ} {count : ℕ} where
-  pub width_few : {ps : List ℕ} → Rowed w s c root fix places count ps → count ≤ 1024
-  width_few R = R.decidable.few
-
-  pub deciding_start : {ps : List ℕ} → Rowed w s c root fix places count ps → {width : ℕ} → width ≡ row_width count → Deciding w s c root fix places count ps width ps 0
-  deciding_start {ps} R e = record {
-    decidable = R.decidable;
-    wide = e;
-    long = refl;
-    rows = subst (λ (x : ℕ). (root + 1) * x ≤ length ps) (sym e) R.rows;
-    turn = omega arith;
-    known = λ table a H t f F m v l. absurd (omega arith);
-  }
-
   module _ {old : List ℕ} {width : ℕ} {ps : List ℕ} {n : ℕ} (D : Deciding w s c root fix places count old width ps n) where
     narrow : width ≤ 16
     narrow = omega (arith, D.wide, D.decidable.few)
@@ -79,10 +66,10 @@ module _ {w s : List ℕ} {c : Counters} {root : ℕ} {fix places : List ℕ} {c
       small = omega (arith, l, root_few D.decidable.range);
     }
 
-    pub deciding_here : n ≤ root → InRange w s c n
+    pub deciding_here : n < root + 1 → InRange w s c n
     deciding_here l = record { lent = D.decidable.range.lent; inside = omega (arith, l, D.decidable.range.inside) }
 
-    pub deciding_against : n ≤ root → {ws : List ℕ} → NodeAt w s c n ws → Against ws ps width fix places count
+    pub deciding_against : n < root + 1 → {ws : List ℕ} → NodeAt w s c n ws → Against ws ps width fix places count
     deciding_against l {ws} N =
         let L = D.decidable.range.lent in
         let inside : n < length L.view = omega (arith, (deciding_here l).inside, L.holds.nodes) in
@@ -102,19 +89,7 @@ module _ {w s : List ℕ} {c : Counters} {root : ℕ} {fix places : List ℕ} {c
           narrow = narrow;
         }
 
-    few_before : n ≤ root → n * width ≤ 4096 * 16
-    few_before l = mul-le-mul {n₂ = 4096} (omega (arith, l, root_few D.decidable.range)) narrow
-
-    pub deciding_from : n ≤ root → Fits w64 (n * width)
-    deciding_from l = let h = few_before l in omega (arith, h)
-
-    pub deciding_room : n ≤ root → {ws row : List ℕ} → RowOf ws ps width fix places count row → Storing ps (n * width) row width
-    deciding_room l R = record { room = omega (arith, (has_row n l).inside); long = R.long; narrow = narrow }
-
-    pub deciding_next : n ≤ root → Fits w64 (n + 1)
-    deciding_next l = let h = root_few D.decidable.range in omega (arith, h, l)
-
-    pub deciding_more : n ≤ root → {ws row ps' : List ℕ} → NodeAt w s c n ws → RowOf ws ps width fix places count row → Stores ps (n * width) row width ps' → Deciding w s c root fix places count old width ps' (n + 1)
+    pub deciding_more : n < root + 1 → {ws row ps' : List ℕ} → NodeAt w s c n ws → RowOf ws ps width fix places count row → Stores ps (n * width) row width ps' → Deciding w s c root fix places count old width ps' (n + 1)
     unfolding takes
     deciding_more l {ws} {row} {ps'} N R S = record {
       decidable = D.decidable;
@@ -136,25 +111,16 @@ module _ {w s : List ℕ} {c : Counters} {root : ℕ} {fix places : List ℕ} {c
         go table a H t f F m v k h (yes p) = subst (λ (x : ℕ). pair ps' width x v ≡ takes f a x v) (sym p) (stored_new ps row ps' width n S v (omega (arith, h, bits_enough)) ∙ new table a H t f F v h)
         go table a H t f F m v k h (no p) = stored_old ps row ps' width n S m v (omega (arith, k, p)) (omega (arith, h, bits_enough)) ∙ D.known table a H t f F m v (omega (arith, k, p)) h
 
-    pub deciding_long : length ps ≡ length old
-    deciding_long = D.long
-
     pub root_cast : Fits w32 root
     root_cast = let h = root_few D.decidable.range in omega (arith, h)
-
-    pub last_there : 1 ≤ count
-    last_there = D.decidable.some_value
-
-    pub last_cast : Fits w32 (count - 1)
-    last_cast = omega (arith, D.decidable.few)
 
     pub deciding_pair : HasPair ps width root (count - 1)
     deciding_pair = record { row = has_row root (omega arith); fits = omega (arith, bits_enough, D.decidable.some_value) }
 
-    pub deciding_done : root < n → {r : Bool} → r ≡ pair ps width root (count - 1) → Decides w s c root fix places count r
+    pub deciding_done : root + 1 ≤ n → {r : Bool} → r ≡ pair ps width root (count - 1) → Decides w s c root fix places count r
     unfolding fits
     deciding_done h e = record {
-      is = λ table a H t f F. e ∙ D.known table a H t f F root (count - 1) h (omega (arith, D.decidable.some_value)) ∙ ap (λ (k : ℕ). takes f a root (k - 1)) F.counted;
+      is = λ table a H t f F. e ∙ D.known table a H t f F root (count - 1) (omega arith) (omega (arith, D.decidable.some_value)) ∙ ap (λ (k : ℕ). takes f a root (k - 1)) F.counted;
     }
 
   -- ---- few rows, or as many as there can be
@@ -162,9 +128,6 @@ module _ {w s : List ℕ} {c : Counters} {root : ℕ} {fix places : List ℕ} {c
   rows_product D {x} e =
       let h : (root + 1) * x ≤ 4096 * 16 = mul-le-mul {n₂ = 4096} {m₂ = 16} (omega (arith, root_few D.range)) (omega (arith, e, D.few)) in
       omega (arith, h)
-
-  pub few_rows : Decidable w s c root fix places count → {x : ℕ} → x ≡ row_width count → (root + 1) * x ≤ 1024 → Rowed w s c root fix places count (replicate 1024 0)
-  few_rows D {x} e h = record { decidable = D; rows = subst (λ (k : ℕ). (root + 1) * row_width count ≤ k) (sym (length-replicate {A = ℕ} 1024 0)) (subst (λ (k : ℕ). (root + 1) * k ≤ 1024) e h) }
 
   pub all_rows : Decidable w s c root fix places count → Rowed w s c root fix places count (replicate 65536 0)
   all_rows D =

@@ -1,18 +1,20 @@
 -- A value held against a primitive, a list or a set: the words of both say whether the node takes it.
-use Prim.Native.Nat.{ℕ, suc, ◌+◌, ◌-◌, ◌*◌, ◌<◌, ◌≤◌}
+use Prim.Native.Nat.{ℕ, zero, suc, ◌-◌, ◌*◌, ◌<◌, ◌≤◌}
 use mathlib.Core.Path.{◌≡◌, refl, sym, ap, ◌∙◌, subst}
 use mathlib.Core.Bool.{Bool, true, false, not, ◌&&◌, ◌||◌}
 use mathlib.Core.List.{List, [], ◌∷◌, ◌++◌, map}
 use native.Mathlib.Omega.{arith}
-use native.Mathlib.Numerals.{add-one}
-use lib.ListN.{length, get_or, take, drop, drop_of_length-le}
+use lib.ListN.{length, get_or, take, drop}
 use lib.Seq.{drop-cons, take-suc, take_all, get_or-drop, get_or-take, length-take-le}
 use lib.Dec.{eqb}
 use borrow.Author.Tests.{eq-eqb, ne_eqb, eqb-true, not-true as negated, not-false}
+use Rattle.std.proofs.lemmas.List.{get_or_default}
+use Rattle.std.specs.Prelude.{IsTrue, ◌↔◌, EachIndex}
 use Rattle.words.specs.Words.{bit, head_kind, head_open, head_dynamic, field_name, child}
 use Rattle.types.specs.Kind as kinds
 use Rattle.types.specs.Kind.{Kind, disc}
 use Rattle.types.specs.Node.{Node, Field, tag, children, field_of, tag_of_in, children_of}
+use Rattle.types.proofs.Tests.{true_false, and_true, both, not_true}
 use Rattle.types.proofs.Decodes.{well_parts}
 use Rattle.fix_values.specs.Values as values
 use Rattle.fix_values.specs.Values.{Value, value, shape, kind, guess}
@@ -40,35 +42,25 @@ module _ (c k : ℕ) where
   unfolding primitive_takes
   kind_takes f g = rw (ne_eqb c 7 f, primitive_takes, ne_eqb c 6 g)
 
--- ---- the elements of a list: those still to come decide
-pub record Elements (ps : List ℕ) (width n : ℕ) (us : List ℕ) (i : ℕ) : Type 0 where
-  pub list : ListIn ps width n us
-  pub rest : each (pair ps width n) (map child us) ≡ each (pair ps width n) (map child (drop i us))
+-- ---- the elements of a list
+module _ (t : Test) where
+  each_by : (us : List ℕ) → ((i : ℕ) → i < length us → t (child (get_or us i 0)) ≡ true) → each t (map child us) ≡ true
+  unfolding each
+  each_by [] f = refl
+  each_by (u ∷ us) f = both (f 0 (omega arith)) (each_by us (λ i l. f (suc i) (omega arith)))
 
-module _ {ps us : List ℕ} {width n : ℕ} where
-  pub elements_start : ListIn ps width n us → Elements ps width n us 0
-  elements_start L = record { list = L; rest = refl }
+  each_at : (us : List ℕ) → each t (map child us) ≡ true → (i : ℕ) → i < length us → t (child (get_or us i 0)) ≡ true
+  unfolding each
+  each_at [] e i l = absurd (omega arith)
+  each_at (u ∷ us) e zero l = (and_true (t (child u)) (each t (map child us)) e).0
+  each_at (u ∷ us) e (suc i) l = each_at us (and_true (t (child u)) (each t (map child us)) e).1 i (omega arith)
 
-  module _ {i : ℕ} (E : Elements ps width n us i) where
-    pub element_pair : i < length us → {m : ℕ} → m ≡ child (get_or us i 0) → HasPair ps width n m
-    element_pair l e = rw e (E.list.each i l)
+  pub all_each : (us : List ℕ) (r : Bool) → (IsTrue r ↔ EachIndex us (λ i. t (child (get_or us i 0)) ≡ true)) → r ≡ each t (map child us)
+  all_each us true e = sym (each_by us (e.0 refl))
+  all_each us false e = sym (not_true (each t (map child us)) (λ f. true_false (sym (e.1 (each_at us f)))))
 
-    module _ {m : ℕ} {b : Bool} (q : b ≡ pair ps width n m) (e : m ≡ child (get_or us i 0)) (l : i < length us) where
-      next : each (pair ps width n) (map child us) ≡ (b && each (pair ps width n) (map child (drop (i + 1) us)))
-      unfolding each
-      next =
-          E.rest ∙ ap (λ (l : List ℕ). each (pair ps width n) (map child l)) (drop-cons us i 0 l)
-          ∙ (λ j. sym (q ∙ ap (pair ps width n) e) j && each (pair ps width n) (map child (drop (sym (add-one i) j) us)))
-
-      pub element_fails : not b ≡ true → false ≡ each (pair ps width n) (map child us)
-      element_fails p = sym (next ∙ rw (negated b p))
-
-      pub element_more : not b ≡ false → Elements ps width n us (i + 1)
-      element_more p = record { list = E.list; rest = next ∙ rw (not-false b p) }
-
-    pub elements_done : length us ≤ i → true ≡ each (pair ps width n) (map child us)
-    unfolding each
-    elements_done h = sym (E.rest ∙ ap (λ (l : List ℕ). each (pair ps width n) (map child l)) (drop_of_length-le us h))
+pub element_pair : {ps us : List ℕ} {width n : ℕ} → ListIn ps width n us → (i d : ℕ) → i < length us → HasPair ps width n (child (get_or us i d))
+element_pair {us = us} L i d l = rw (get_or_default us i d 0 l) (L.each i l)
 
 -- ---- what the node takes is read off its words
 takes_read : {ws ps : List ℕ} {u : Value} {width : ℕ} {r : Bool} (k : Kind) → head_kind (get_or ws 0 0) ≡ disc k

@@ -1,24 +1,20 @@
 -- Rows joined word by word, and so value by value.
 use Prim.Native.Nat.{ℕ, zero, suc, ◌+◌, ◌*◌, ◌/◌, ◌%◌, ◌≤◌, ◌<◌}
-use mathlib.Core.Path.{◌≡◌, refl, sym, ap, ◌∙◌, subst}
+use mathlib.Core.Path.{◌≡◌, refl, sym, ap, ◌∙◌}
 use mathlib.Core.Bool.{Bool, true, false, ◌&&◌, ◌||◌, xor}
 use mathlib.Core.List.{List, ◌∷◌, map}
 use native.Mathlib.Omega.{arith}
-use native.Mathlib.Nat.{mul-le-mul, suc-mul}
-use native.Mathlib.Decide.{ℕ_discrete}
 use native.Mathlib.Numerals.{add-one}
-use lib.ListN.{length, get_or, set, drop, replicate, length-set, length-replicate, length-map, drop_of_length-le, get_or-map}
-use lib.Seq.{get_or-set_same, get_or-set_other, drop-cons}
+use lib.ListN.{length, get_or, drop, replicate, length-replicate, length-map, drop_of_length-le, get_or-map}
+use lib.Seq.{drop-cons}
 use lib.Bits.{bit_and, bit_or, bit_xor}
 use lib.Dec.{eqb}
 use borrow.Author.Tests.{eq-eqb, ne_eqb}
-use mir.Syntax.{w64}
-use mir.Val.{Fits}
 use Rattle.words.specs.Words.{child}
 use Rattle.bits.specs.Bits.{bit, has}
 use Rattle.bits.proofs.Halves.{bit_bit_and, bit_either, ones_bit}
 use Rattle.bits.proofs.Sets.{has_none}
-use Rattle.fitting.specs.Inner.Rows.{pair, HasRow}
+use Rattle.fitting.specs.Inner.Rows.{pair}
 use Rattle.fitting.specs.Inner.Joined.{starts_full, all_or_none, join, join_all, JoinsWords, Rows, Joins, RowsOf, JoinsAll}
 
 -- ---- two words
@@ -73,17 +69,6 @@ module _ (ps : List ℕ) (width n v : ℕ) where
       let q : (n * width * 64 + v) % 64 ≡ v % 64 = omega arith in
       λ i. bit (get_or ps (p i) 0) (q i)
 
--- ---- the rows of nodes
--- the row after node n's begins where node n's ends
-next_row : (n width : ℕ) → (n + 1) * width ≡ n * width + width
-next_row n width = ap (λ (m : ℕ). m * width) (add-one n) ∙ suc-mul n width
-
-pub row_from : {ps : List ℕ} {width n : ℕ} → HasRow ps width n → n * width ≤ 4096 * 16
-row_from {ps} {width} {n} H = mul-le-mul {n₂ = 4096} (omega (arith, H.small)) H.narrow
-
-pub row_inside : {ps : List ℕ} {width n : ℕ} → HasRow ps width n → n * width + width ≤ length ps
-row_inside {ps} {width} {n} H = omega (arith, H.inside, next_row n width)
-
 -- ---- one child's row
 pub record Joining (k : ℕ) (row ps : List ℕ) (width n : ℕ) (now : List ℕ) (i : ℕ) : Type 0 where
   pub rows : Rows row ps width n
@@ -93,42 +78,13 @@ pub record Joining (k : ℕ) (row ps : List ℕ) (width n : ℕ) (now : List ℕ
   pub left : (j : ℕ) → i ≤ j → get_or now j 0 ≡ get_or row j 0
 
 module _ {k : ℕ} {row ps : List ℕ} {width n : ℕ} where
-  pub joining_start : Rows row ps width n → Joining k row ps width n row 0
-  joining_start R = record { rows = R; long = R.long; turn = omega arith; done = λ j l. absurd (omega arith); left = λ j l. refl }
-
   module _ {now : List ℕ} {i : ℕ} (J : Joining k row ps width n now i) where
-    pub joining_here : i < width → i < 16
-    joining_here l = omega (arith, J.rows.has_row.narrow)
-
-    pub joining_there : {from : ℕ} → from ≡ n * width → i < width → from + i < length ps
-    joining_there e l = let h = row_inside J.rows.has_row in omega (arith, e, l, h)
-
-    pub joining_more : {r : ℕ} → i < width → JoinsWords k (get_or now i 0) (get_or ps (n * width + i) 0) r → Joining k row ps width n (set now i r) (i + 1)
-    joining_more {r} l W = record {
-      rows = J.rows;
-      long = length-set now i r ∙ J.long;
-      turn = omega (arith, l);
-      done = λ j h. go j h (ℕ_discrete j i);
-      left = λ j h. get_or-set_other now i j r 0 (λ e. omega (arith, e, h)) ∙ J.left j (omega (arith, h));
-    }
-      where
-        go : (j : ℕ) → j < i + 1 → Dec (j ≡ i) → JoinsWords k (get_or row j 0) (get_or ps (n * width + j) 0) (get_or (set now i r) j 0)
-        go j h (yes e) = record {
-          is = λ b. (λ m. bit (get_or (set now i r) (e m) 0) b) ∙ ap (λ (x : ℕ). bit x b) (get_or-set_same now i r 0 (omega (arith, J.long, joining_here l))) ∙ W.is b
-              ∙ (λ m. join k (bit ((J.left i (omega arith)) m) b) (bit (get_or ps (n * width + i) 0) b))
-              ∙ sym (λ m. join k (bit (get_or row (e m) 0) b) (bit (get_or ps (n * width + e m) 0) b));
-        }
-        go j h (no f) = record { is = λ b. ap (λ (x : ℕ). bit x b) (get_or-set_other now i j r 0 f) ∙ (J.done j (omega (arith, h, f))).is b }
-
     pub joining_done : width ≤ i → Joins k row ps width n now
     unfolding has
     joining_done h = record {
       long = J.long;
       is = λ v l. (J.done (v / 64) (omega (arith, h, l))).is (v % 64) ∙ ap (join k (bit (get_or row (v / 64) 0) (v % 64))) (sym (pair_word ps width n v));
     }
-
-pub joining_from : {row ps : List ℕ} {width n : ℕ} → Rows row ps width n → Fits w64 (n * width)
-joining_from R = let h = row_from R.has_row in omega (arith, h)
 
 -- ---- all children's rows
 abbrev tests : List ℕ → ℕ → List ℕ → ℕ → List Bool
@@ -148,9 +104,6 @@ module _ {k : ℕ} {body ps : List ℕ} {width : ℕ} where
   }
 
   module _ {row : List ℕ} {i : ℕ} (G : Gathering k body ps width row i) where
-    pub gathering_row : i < length body → {x n : ℕ} → x ≡ child (get_or body i 0) → n ≡ x → Rows row ps width n
-    gathering_row l e q = record { long = G.long; has_row = subst (HasRow ps width) (sym (q ∙ e)) (G.rows.each i l) }
-
     next_test : (v : ℕ) → i < length body → drop i (tests ps width body v) ≡ pair ps width (child (get_or body i 0)) v ∷ drop (i + 1) (tests ps width body v)
     next_test v l =
         let d : length (tests ps width body v) ≡ length body = length-map (map child body) (λ (n : ℕ). pair ps width n v) ∙ length-map body child in

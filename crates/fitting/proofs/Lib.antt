@@ -4,7 +4,6 @@ pub mod ValueWords
 pub mod NodeWords
 pub mod Held
 pub mod Joining
-pub mod Pairing
 pub mod Agreeing
 pub mod NodeRows
 pub mod Taking

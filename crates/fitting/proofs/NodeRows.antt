@@ -6,8 +6,7 @@ use mathlib.Core.List.{List, [], ◌∷◌, ◌++◌, map}
 use mathlib.Core.Logic.{◌⊎◌, inl, inr}
 use native.Mathlib.Omega.{arith}
 use lib.ListN.{length, get_or, replicate, length-replicate, length-map, get_or-map}
-use lib.Dec.{eqb}
-use borrow.Author.Tests.{eq-eqb, eqb-true}
+use borrow.Author.Tests.{eqb-true}
 use Rattle.words.specs.Words.{head_kind, child}
 use Rattle.types.specs.Kind.{disc, body_count}
 use Rattle.types.specs.Node.{positive, negative, primitive, list, lambda, attrset, named, Tag, members, bound, var, neg, form, Node, node, tag, kind, data_of, child_words, body, children, encode, formed, well}
@@ -22,7 +21,7 @@ use Rattle.fix_values.specs.Fix.{Fix}
 use Rattle.fitting.specs.Fits.{Test, some_pass, all_pass, first, node_takes}
 use Rattle.fitting.specs.Inner.Rows.{pair, HasRow}
 use Rattle.fitting.specs.Inner.Joined.{starts_full, join, join_all, RowsOf, JoinsAll}
-use Rattle.fitting.specs.Inner.Taken.{Holding, Against, RowOf}
+use Rattle.fitting.specs.Inner.Taken.{Against, RowOf}
 
 -- ---- joined one by one
 or_all : (F : ℕ → Test) (v : ℕ) (b : Bool) (cs : List ℕ) → join_all 7 b (map (λ (n : ℕ). F n v) cs) ≡ (b || some_pass (map F cs) v)
@@ -128,15 +127,6 @@ module _ (ws ps : List ℕ) (width : ℕ) (fix places : List ℕ) (count : ℕ) 
 
   pub row_lambda : k ≡ 5 → RowOf ws ps width fix places count (replicate 16 0)
   row_lambda h = row_nothing (inr h)
-
-  pub hold_primitive : k ≡ 2 → Holding ws k
-  hold_primitive h = record { is = e; one_of = rw (eq-eqb k 2 h) }
-
-  pub hold_list : k ≡ 4 → Holding ws k
-  hold_list h = record { is = e; one_of = ap (λ (n : ℕ). eqb n 2 || (eqb n 4 || eqb n 6)) h }
-
-  pub hold_set : k ≡ 6 → Holding ws k
-  hold_set h = record { is = e; one_of = ap (λ (n : ℕ). eqb n 2 || (eqb n 4 || eqb n 6)) h }
 
   module _ (A : Against ws ps width fix places count) {b : List ℕ} (B : ChildWords ws b) where
     own_children : (table nodes : ℕ) (x : Node) → well table nodes x ≡ true → ws ≡ encode x → map child b ≡ children x

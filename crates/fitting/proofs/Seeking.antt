@@ -1,59 +1,23 @@
--- A pair has its bit among the rows. The walk to the first field whose name isn't below another passes those below it; names rise, so that no field but the one it comes to has that name.
-use Prim.Native.Nat.{ℕ, zero, suc, ◌+◌, ◌*◌, ◌<◌, ◌≤◌}
+-- The walk to the first field whose name isn't below another passes those below it; names rise, so that no field but the one it comes to has that name.
+use Prim.Native.Nat.{ℕ, zero, suc, ◌+◌, ◌<◌, ◌≤◌}
 use mathlib.Core.Path.{◌≡◌, refl, sym, ap, ◌∙◌}
 use mathlib.Core.Bool.{true, false}
 use mathlib.Core.List.{List, [], ◌∷◌, map}
 use native.Mathlib.Omega.{arith}
 use native.Mathlib.Decide.{ℕ_discrete, dec_lt}
-use native.Mathlib.Nat.{mul-le-mul}
 use lib.ListN.{length, get_or}
 use lib.Dec.{eqb, ltb}
 use borrow.Author.Tests.{ltb-true, lt-ltb, le-ltb, eqb-true, eq-eqb}
-use mir.Syntax.{w32}
-use mir.Val.{Fits}
 use Rattle.words.specs.Words.{field_name}
 use Rattle.types.specs.Node.{rising}
 use Rattle.types.proofs.Tests.{true_false, and_true}
-use Rattle.fitting.specs.Inner.Rows.{HasPair}
 use Rattle.fitting.specs.Inner.Sets.{Seeks, Risen, Stands, named_at}
-
--- ---- a pair's bit
-module _ {ps : List ℕ} {width n v : ℕ} (P : HasPair ps width n v) where
-  few_words : n * width ≤ 4096 * 16
-  few_words = mul-le-mul {n₂ = 4096} (omega (arith, P.row.small)) P.row.narrow
-
-  pub pair_row : Fits w32 (n * width)
-  pair_row = omega (arith, few_words)
-
-  pub pair_bits : Fits w32 (n * width * 64)
-  pair_bits = omega (arith, few_words)
-
-  pub pair_bit : Fits w32 (n * width * 64 + v)
-  pair_bit = omega (arith, few_words, P.fits, P.row.narrow)
 
 -- ---- from one field on: those passed have names below
 pub record Sought (ws : List ℕ) (from name i : ℕ) : Type 0 where
   pub later : from ≤ i
   pub inside : i ≤ length ws
   pub passed : (k : ℕ) → from ≤ k → k < i → field_name (get_or ws k 0) < name
-
-module _ {ws : List ℕ} {from name : ℕ} where
-  pub sought_start : from ≤ length ws → Sought ws from name from
-  sought_start h = record { later = omega arith; inside = h; passed = λ k l m. absurd (omega arith) }
-
-  module _ {i : ℕ} (S : Sought ws from name i) where
-    pub sought_here : {x : ℕ} → name ≤ x → x ≡ field_name (get_or ws i 0) → Seeks ws from name i
-    sought_here h e = record { later = S.later; inside = S.inside; passed = S.passed; here = λ l. omega (arith, e, h) }
-
-    pub sought_more : i < length ws → {x : ℕ} → x < name → x ≡ field_name (get_or ws i 0) → Sought ws from name (i + 1)
-    sought_more l h e = record { later = omega (arith, S.later); inside = omega arith; passed = λ k a b. go k a b (ℕ_discrete k i) }
-      where
-        go : (k : ℕ) → from ≤ k → k < i + 1 → Dec (k ≡ i) → field_name (get_or ws k 0) < name
-        go k a b (yes q) = rw (q, ← e) h
-        go k a b (no q) = S.passed k a (omega (arith, b, q))
-
-    pub sought_done : length ws ≤ i → Seeks ws from name i
-    sought_done h = record { later = S.later; inside = S.inside; passed = S.passed; here = λ l. absurd (omega arith) }
 
 -- ---- the name at a place
 module _ (ws : List ℕ) (i name : ℕ) where
@@ -114,9 +78,6 @@ pub record Trails (ws : List ℕ) (i : ℕ) (us : List ℕ) (j : ℕ) : Type 0 w
   pub before : j < length us → (k : ℕ) → k < i → field_name (get_or ws k 0) < field_name (get_or us j 0)
 
 module _ {ws us : List ℕ} where
-  pub trails_start : Trails ws 0 us 0
-  trails_start = record { inside = omega arith; before = λ l k h. absurd (omega arith) }
-
   module _ {i j m name : ℕ} (T : Trails ws i us j) (S : Seeks ws i name m) (l : j < length us) (e : name ≡ field_name (get_or us j 0)) where
     pub trails_stands : Stands ws m name
     trails_stands = record { before = λ k h. go k h (dec_lt k i); here = S.here }

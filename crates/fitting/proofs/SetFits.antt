@@ -16,15 +16,12 @@ use Rattle.fitting.specs.Inner.Rows.{pair, HasPair}
 use Rattle.fitting.specs.Inner.Sets.{other_of, OtherAsks, Seeks, CanAsk, Asks, Risen, Stands, FieldTakes, BothRise, test_of, named_at, words_take}
 use Rattle.fitting.specs.declared.sets.Other.{Other}
 use Rattle.fitting.specs.declared.sets.Other.TheVariants as other
-use Rattle.fitting.proofs.Seeking.{named_so, unnamed, Trails, trails_start, trails_stands, trails_more}
+use Rattle.fitting.proofs.Seeking.{named_so, unnamed, Trails, trails_stands, trails_more}
 
 -- ---- a field that the type doesn't name
 module _ (ps : List ℕ) (width v : ℕ) {o : Other} {n : ℕ} (e : o ≡ other.Type n) where
   pub other_asked : OtherAsks ps width o v → HasPair ps width n v
   other_asked A = A.dynamic n e
-
-  pub other_typed : {r : Bool} → r ≡ pair ps width n v → r ≡ other_of ps width o v
-  other_typed q = q ∙ sym (rw e)
 
 -- ---- the test for a name
 module _ (ps : List ℕ) (width : ℕ) (o : Other) (name v : ℕ) where
@@ -64,16 +61,7 @@ pub record Taking (fs vs ps : List ℕ) (width : ℕ) (o : Other) (i j : ℕ) : 
   pub rest : fields_pass (test_of fs ps width o) (map field_name vs) (map child vs) ≡ fields_pass (test_of fs ps width o) (map field_name (drop j vs)) (map child (drop j vs))
 
 module _ {fs vs ps : List ℕ} {width : ℕ} {o : Other} where
-  pub taking_start : Asks fs vs ps width o → Taking fs vs ps width o 0 0
-  taking_start A = record { asks = A; trails = trails_start; rest = refl }
-
   module _ {i j : ℕ} (T : Taking fs vs ps width o i j) where
-    pub taking_inside : i ≤ length fs
-    taking_inside = T.trails.inside
-
-    pub taking_can : j < length vs → {m : ℕ} → m ≡ child (get_or vs j 0) → CanAsk fs ps width o m
-    taking_can l e = rw e (T.asks.can.each j l)
-
     module _ {m name v : ℕ} (S : Seeks fs i name m) {b : Bool} (F : FieldTakes fs m name ps width o v b) (l : j < length vs) (e : name ≡ field_name (get_or vs j 0)) (q : v ≡ child (get_or vs j 0)) where
       next : fields_pass (test_of fs ps width o) (map field_name vs) (map child vs) ≡ (b && fields_pass (test_of fs ps width o) (map field_name (drop (j + 1) vs)) (map child (drop (j + 1) vs)))
       unfolding fields_pass
@@ -122,13 +110,7 @@ pub record Missing (fs vs : List ℕ) (i j : ℕ) : Type 0 where
   pub rest : none_missing (map field_of fs) (map field_name vs) ≡ none_missing (map field_of (drop i fs)) (map field_name vs)
 
 module _ {fs vs : List ℕ} where
-  pub missing_start : BothRise fs vs → Missing fs vs 0 0
-  missing_start B = record { rise = B; trails = trails_start; rest = refl }
-
   module _ {i j : ℕ} (M : Missing fs vs i j) where
-    pub missing_inside : j ≤ length vs
-    missing_inside = M.trails.inside
-
     module _ {m name : ℕ} (S : Seeks vs j name m) (l : i < length fs) (e : name ≡ field_name (get_or fs i 0)) {o b : Bool} (p : o ≡ field_optional (get_or fs i 0)) (q : b ≡ named_at vs m name) where
       step : none_missing (map field_of fs) (map field_name vs) ≡ ((o || b) && none_missing (map field_of (drop (i + 1) fs)) (map field_name vs))
       unfolding none_missing

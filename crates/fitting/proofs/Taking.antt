@@ -1,32 +1,27 @@
 -- Each value in turn is held against the node, and gets its bit if the node takes it.
-use Prim.Native.Nat.{ℕ, ◌+◌, ◌/◌, ◌≤◌, ◌<◌}
+use Prim.Native.Nat.{ℕ, ◌+◌, ◌≤◌, ◌<◌}
 use mathlib.Core.Path.{◌≡◌, refl, sym, ap, ◌∙◌, subst}
 use mathlib.Core.Bool.{Bool, true, false}
 use mathlib.Core.List.{List, map}
 use native.Mathlib.Omega.{arith}
 use native.Mathlib.Decide.{ℕ_discrete}
 use lib.ListN.{length, replicate, length-replicate}
-use mir.Syntax.{w32, w64}
-use mir.Val.{Fits}
 use Rattle.types.specs.Node.{Node, tag, children, encode, well}
 use Rattle.types.proofs.Tests.{true_false}
 use Rattle.bits.specs.Bits.{has, Put}
 use Rattle.bits.proofs.Sets.{has_none}
 use Rattle.fix_values.specs.Values as values
 use Rattle.fix_values.specs.Fix.{Fix}
-use Rattle.fix_values.specs.Inner.{FixIn, InFix, ValueAt}
+use Rattle.fix_values.specs.Inner.{FixIn, ValueAt}
 use Rattle.fix_values.proofs.Checking.{held_is, held_few}
 use Rattle.fitting.specs.Fits.{node_takes}
 use Rattle.fitting.specs.Inner.Rows.{pair}
-use Rattle.fitting.specs.Inner.Taken.{NodeIn, ValueIn, Takes, Against, Marks, RowOf}
+use Rattle.fitting.specs.Inner.Taken.{ValueIn, Takes, Against, Marks}
 
 -- ---- one bit
 module _ (v : ℕ) {b : Bool} {s : List ℕ} where
   pub marked : b ≡ true → {t : List ℕ} → Put s v t → Marks b v s t
   marked e P = record { long = P.long; put = λ q. P; kept = λ q. absurd (true_false (sym e ∙ q)) }
-
-  pub unmarked : b ≡ false → Marks b v s s
-  unmarked e = record { long = refl; put = λ q. absurd (true_false (sym q ∙ e)); kept = λ q. refl }
 
 -- ---- all values
 pub record Taking (ws ps : List ℕ) (width : ℕ) (fix places : List ℕ) (count : ℕ) (row : List ℕ) (v : ℕ) : Type 0 where
@@ -48,12 +43,6 @@ module _ {ws ps : List ℕ} {width : ℕ} {fix places : List ℕ} {count : ℕ} 
   }
 
   module _ {row : List ℕ} {v : ℕ} (T : Taking ws ps width fix places count row v) where
-    pub taking_node : NodeIn ws ps width
-    taking_node = T.against.node
-
-    pub taking_here : v < count → InFix fix places count v
-    taking_here l = record { table = T.against.table; view = T.against.view; holds = T.against.holds; inside = l }
-
     pub taking_value : v < count → {us : List ℕ} → ValueAt fix places count v us → ValueIn us width
     taking_value l R = record {
       table = T.against.table;
@@ -64,15 +53,6 @@ module _ {ws ps : List ℕ} {width : ℕ} {fix places : List ℕ} {count : ℕ} 
 
     few : v < count → v < 1024
     few l = let h = (held_few T.against.holds).1 in omega (arith, l, h)
-
-    pub taking_small : v < count → Fits w32 v
-    taking_small l = let h = few l in omega (arith, h)
-
-    pub taking_room : v < count → v / 64 < length row
-    taking_room l = let h = few l in omega (arith, h, T.long)
-
-    pub taking_next : v < count → Fits w64 (v + 1)
-    taking_next l = let h = few l in omega (arith, h)
 
     module _ (l : v < count) {us : List ℕ} (R : ValueAt fix places count v us) {b : Bool} (K : Takes ws us ps width b) where
       told : (table nodes : ℕ) (x : Node) → well table nodes x ≡ true → ws ≡ encode x → (t : ℕ) (f : Fix) → FixIn t fix places count f → b ≡ node_takes f (tag x) (map (pair ps width) (children x)) v
@@ -99,6 +79,3 @@ module _ {ws ps : List ℕ} {width : ℕ} {fix places : List ℕ} {count : ℕ} 
           go : (c : Bool) → b ≡ c → Taking ws ps width fix places count row' (v + 1)
           go true p = more row' (M.long ∙ T.long) ((M.put p).new ∙ sym p) (M.put p).old
           go false p = more row' (M.long ∙ T.long) (ap (λ (y : List ℕ). has y v) (M.kept p) ∙ T.left v (omega arith) ∙ sym p) (λ u f. ap (λ (y : List ℕ). has y u) (M.kept p))
-
-    pub taking_done : count ≤ v → RowOf ws ps width fix places count row
-    taking_done h = record { long = T.long; is = λ table nodes x g q t f F u l. T.done table nodes x g q t f F u (omega (arith, h, l)) }

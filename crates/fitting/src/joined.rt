@@ -42,10 +42,8 @@ fn join(row: &mut [u64; 16], kind: u32, pairs: &[u64], width: usize, n: usize)
     ensures { Joins kind row.old pairs.now width n row.new }
 {
     let from = n * width;
-    let mut i = 0;
-    while i < width {
+    for i in 0..width {
         row[i] = join_words(kind, row[i], pairs[from + i]);
-        i += 1;
     }
 }
 
@@ -55,10 +53,8 @@ pub fn joined_row(body: &[u32], kind: u32, pairs: &[u64], width: usize) -> [u64;
     ensures { JoinsAll kind body.now pairs.now width result }
 {
     let mut row = start_row(starts_full(kind));
-    let mut i = 0;
-    while i < body.len() {
-        join(&mut row, kind, pairs, width, wide(child(body[i])));
-        i += 1;
+    for word in body {
+        join(&mut row, kind, pairs, width, wide(child(*word)));
     }
     row
 }

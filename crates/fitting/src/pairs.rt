@@ -40,12 +40,7 @@ fn store(pairs: &mut [u64], at: usize, row: &[u64; 16], width: usize)
     requires { Storing pairs.old at row.now width }
     ensures { Stores pairs.old at row.now width pairs.new }
 {
-    let mut i = 0;
-    while i < width {
-        let k = at + i;
-        pairs[k] = row[i];
-        i += 1;
-    }
+    pairs[at..at + width].copy_from_slice(&row[..width]);
 }
 
 // How many words of 64 bits a row has.
@@ -71,8 +66,7 @@ fn decide_in(
     ensures { Decides words.now starts.now c root fix.now places.now count result }
 {
     let width = row_width(count);
-    let mut n = 0;
-    while n <= root {
+    for n in 0..root + 1 {
         let row = row_of(
             node_at(words, starts, c, n),
             pairs,
@@ -82,7 +76,6 @@ fn decide_in(
             count,
         );
         store(pairs, n * width, &row, width);
-        n += 1;
     }
     fits_pair(pairs, width, root as u32, (count - 1) as u32)
 }

@@ -12,7 +12,7 @@ use types::arc_ty::child;
 use types::attrset::{field_name, field_optional};
 
 // What a field that the type doesn't name must fit: the dynamic type, or nothing if the set is open.
-#[derive(Clone, Copy)]
+#[derive(Clone, Copy, Debug, PartialEq, Eq)]
 pub enum Other {
     Type(u32),
     Open(bool),
@@ -31,14 +31,12 @@ fn seek(fields: &[u32], from: usize, name: usize) -> usize
     requires { from ≤ length fields.now }
     ensures { Seeks fields.now from name result }
 {
-    let mut i = from;
-    while i < fields.len() {
+    for i in from..fields.len() {
         if field_name(fields[i]) >= name {
             return i;
         }
-        i += 1;
     }
-    i
+    fields.len()
 }
 
 // Whether the field at this place has this name.
@@ -88,14 +86,12 @@ fn fields_take(fields: &[u32], value: &[u32], pairs: &[u64], width: usize, other
         (map child value.now) }
 {
     let mut i = 0;
-    let mut j = 0;
-    while j < value.len() {
-        let name = field_name(value[j]);
+    for word in value {
+        let name = field_name(*word);
         i = seek(fields, i, name);
-        if !field_takes(fields, i, name, pairs, width, other, child(value[j])) {
+        if !field_takes(fields, i, name, pairs, width, other, child(*word)) {
             return false;
         }
-        j += 1;
     }
     true
 }
@@ -105,15 +101,13 @@ fn none_missing(fields: &[u32], value: &[u32]) -> bool
     requires { BothRise fields.now value.now }
     ensures { result ≡ none_missing (map field_of fields.now) (map field_name value.now) }
 {
-    let mut i = 0;
     let mut j = 0;
-    while i < fields.len() {
-        let name = field_name(fields[i]);
+    for field in fields {
+        let name = field_name(*field);
         j = seek(value, j, name);
-        if !(field_optional(fields[i]) | named_at(value, j, name)) {
+        if !(field_optional(*field) | named_at(value, j, name)) {
             return false;
         }
-        i += 1;
     }
     true
 }

@@ -30,14 +30,9 @@ fn list_takes(pairs: &[u64], width: usize, n: u32, elements: &[u32]) -> bool
     requires { ListIn pairs.now width n elements.now }
     ensures { result ≡ each (pair pairs.now width n) (map child elements.now) }
 {
-    let mut i = 0;
-    while i < elements.len() {
-        if !fits_pair(pairs, width, n, child(elements[i])) {
-            return false;
-        }
-        i += 1;
-    }
-    true
+    elements
+        .iter()
+        .all(|word| fits_pair(pairs, width, n, child(*word)))
 }
 
 // Whether the set type with these words takes a set of these field words.
@@ -105,11 +100,9 @@ pub fn taken_row(
     ensures { RowOf node.now pairs.now width fix.now places.now count result }
 {
     let mut row = [0u64; 16];
-    let mut v = 0;
-    while v < count {
+    for v in 0..count {
         let taken = takes(node, kind, pairs, width, value_at(fix, places, count, v));
         mark(&mut row, v as u32, taken);
-        v += 1;
     }
     row
 }

@@ -8,14 +8,16 @@ use native.Mathlib.Omega.{arith}
 use native.Mathlib.Decide.{ℕ_discrete}
 use lib.ListN.{length, get_or, take, drop, set, length-set, length-drop, length-append, take-append-drop, drop_of_length-le}
 use lib.Seq.{get_or-set_same, get_or-set_other, get_or-drop, drop-drop, take_all, take-append_seam}
-use borrow.Author.Tests.{eq-eqb, ne_eqb, not-true, not-false}
+use borrow.Author.Tests.{eq-eqb, ne_eqb, not-false}
 use mir.Syntax.{w64}
 use mir.Val.{Fits}
+use Rattle.std.specs.Prelude.{Some, None}
+use Rattle.std.specs.Prelude as std
 use Rattle.words.specs.Words.{head_count}
 use Rattle.types.proofs.Tests.{and_true, both, numbers_if}
 use Rattle.fix_values.specs.Values.{Value, value, body, encode, well, guess, is_value}
 use Rattle.fix_values.specs.Fix.{Fix, value_at, good, read, fix_of}
-use Rattle.fix_values.specs.Inner.{Behind, span, NextValue, Unplaced, Placed, FixIn, Checks, InFix, ValueAt}
+use Rattle.fix_values.specs.Inner.{span, NextValue, Unplaced, Placed, FixIn, Checks, InFix, ValueAt}
 use Rattle.fix_values.proofs.Fixes.{value_words, value_length, read_yes, read_no, read_end, fix_read, fix_decode}
 use Rattle.fix_values.proofs.ValueWords.{well_parts, head_reads}
 use Rattle.fix_values.proofs.Passing.{word_next}
@@ -26,8 +28,8 @@ unfolding head_count
 count_next w e = omega (arith, e)
 
 module _ (table n : ℕ) (ws : List ℕ) (at : ℕ) where
-  pub next_cut : {c : ℕ} → c ≡ head_count (get_or ws at 0) → length ws - at < 1 + c → NextValue table n ws at 0
-  next_cut {c} e l = record { found = λ f. absurd (f refl); missing = λ q. go (is_value table n (take (span ws at) (drop at ws))) refl }
+  pub next_cut : {c : ℕ} → c ≡ head_count (get_or ws at 0) → length ws - at < 1 + c → NextValue table n ws at None
+  next_cut {c} e l = record { found = λ k f. let z : ◌≡◌ {A = ℕ} 0 1 = cc in absurd (omega arith); missing = λ q. go (is_value table n (take (span ws at) (drop at ws))) refl }
     where
       go : (t : Bool) → is_value table n (take (span ws at) (drop at ws)) ≡ t → is_value table n (take (span ws at) (drop at ws)) ≡ false
       go false p = p
@@ -41,11 +43,11 @@ module _ (table n : ℕ) (ws : List ℕ) (at : ℕ) where
     stretch : is_value table n (take (span ws at) (drop at ws)) ≡ r
     stretch = let z : at + (1 + c) - at ≡ span ws at = omega (arith, e) in sym (q ∙ ap (λ (k : ℕ). is_value table n (take k (drop at ws))) z)
 
-    pub next_bad : not r ≡ true → NextValue table n ws at 0
-    next_bad f = record { found = λ g. absurd (g refl); missing = λ z. stretch ∙ not-true r f }
-
-    pub next_good : at < length ws → 1 + c ≤ length ws - at → not r ≡ false → NextValue table n ws at (1 + c)
-    next_good i l f = record { found = λ g. (omega (arith, e), (omega (arith, length-drop at ws), stretch ∙ not-false r f)); missing = λ z. absurd (omega (arith, z)) }
+    pub next_good : at < length ws → 1 + c ≤ length ws - at → not r ≡ false → NextValue table n ws at (Some (1 + c))
+    next_good i l f = record {
+      found = λ k g. let z : 1 + c ≡ k = cc in (omega (arith, e, z), (omega (arith, z, length-drop at ws), stretch ∙ not-false r f));
+      missing = λ g. let z : ◌≡◌ {A = ℕ} 0 1 = cc in absurd (omega arith);
+    }
 
 -- ---- the values read so far
 pub record Checked (table : ℕ) (ws ps : List ℕ) (n at : ℕ) : Type 0 where
@@ -83,9 +85,6 @@ module _ {table : ℕ} {ws : List ℕ} where
   }
 
   module _ {ps : List ℕ} {n at : ℕ} (C : Checked table ws ps n at) where
-    pub checked_behind : at < length ws → n < 1024 → Behind ws at n
-    checked_behind l f = record { inside = l; few = f }
-
     pub checked_place : n < 1024 → n < length ps
     checked_place l = omega (arith, C.long)
 
@@ -112,21 +111,18 @@ module _ {table : ℕ} {ws : List ℕ} where
         let z : 1024 - n ≡ suc (1024 - (n + 1)) = omega (arith, f) in
         C.left (omega (arith, l)) ∙ (λ i. read table (z i) (next_words l i) C.view)
 
-    pub checked_broken : at < length ws → n < 1024 → {r : ℕ} → NextValue table n ws at r → r ≡ 0 → Checks table ws ps 0
+    pub checked_broken : at < length ws → n < 1024 → {o : std.Option ℕ} → NextValue table n ws at o → o ≡ None → Checks table ws ps 0
     checked_broken l f N e = record {
       long = C.long;
       broken = λ z. left_next l f ∙ read_no table (1024 - (n + 1)) (get_or ws at 0) (drop (at + 1) ws) C.view (next_is l (N.missing e));
       fix = λ g. absurd (g refl);
     }
 
-    pub checked_room : at < length ws → n < 1024 → {r : ℕ} → NextValue table n ws at r → (r ≡ 0 → ⊥) → at + r ≤ length ws
-    checked_room l f N e = let q = N.found e in omega (arith, q.1.0, length-drop at ws)
+    pub checked_room : at < length ws → n < 1024 → {o : std.Option ℕ} → NextValue table n ws at o → {r : ℕ} → o ≡ Some r → at + r ≤ length ws
+    checked_room l f N {r} e = let q = N.found r e in omega (arith, q.1.0, length-drop at ws)
 
-    pub checked_fits : at < length ws → n < 1024 → {r : ℕ} → NextValue table n ws at r → (r ≡ 0 → ⊥) → length ws * 4 < 2 ^ 63 → Fits w64 (at + r)
-    checked_fits l f N e b = let h = checked_room l f N e in omega (arith, h, b)
-
-    pub checked_more : at < length ws → n < 1024 → {r : ℕ} → NextValue table n ws at r → (r ≡ 0 → ⊥) → Checked table ws (set ps n at) (n + 1) (at + r)
-    checked_more l f {r} N e = record {
+    pub checked_more : at < length ws → n < 1024 → {o : std.Option ℕ} → NextValue table n ws at o → {r : ℕ} → o ≡ Some r → Checked table ws (set ps n at) (n + 1) (at + r)
+    checked_more l f N {r} e = record {
       view = x ∷ C.view;
       left = λ z. left_next l f ∙ read_yes table (1024 - (n + 1)) (get_or ws at 0) (drop (at + 1) ws) C.view (next_is l yes_value) ∙ (λ i. read table (1024 - (n + 1)) (after i) (x ∷ C.view));
       counted = omega (arith, C.counted);
@@ -145,10 +141,10 @@ module _ {table : ℕ} {ws : List ℕ} where
         x = guess (get_or ws at 0 ∷ take c (drop (at + 1) ws))
 
         yes_value : is_value table n (take (span ws at) (drop at ws)) ≡ true
-        yes_value = (N.found e).1.1
+        yes_value = (N.found r e).1.1
 
         after : drop c (drop (at + 1) ws) ≡ drop (at + r) ws
-        after = let q : at + 1 + c ≡ at + r = omega (arith, (N.found e).0) in drop-drop c (at + 1) ws ∙ ap (λ (k : ℕ). drop k ws) q
+        after = let q : at + 1 + c ≡ at + r = omega (arith, (N.found r e).0) in drop-drop c (at + 1) ws ∙ ap (λ (k : ℕ). drop k ws) q
 
         here : drop at ws ≡ encode x ++ drop c (drop (at + 1) ws)
         here = next_words l ∙ ap (λ (y : List ℕ). get_or ws at 0 ∷ y) (sym (take-append-drop c (drop (at + 1) ws))) ∙ ap (λ (y : List ℕ). y ++ drop c (drop (at + 1) ws)) (value_words table (length C.view) (get_or ws at 0 ∷ take c (drop (at + 1) ws)) (next_is l yes_value)).1

@@ -8,12 +8,14 @@ use native.Mathlib.Numerals.{add-one}
 use lib.ListN.{length, get_or, take, drop, drop_of_length-le}
 use lib.Seq.{drop-cons, take_all}
 use lib.Dec.{eqb, ltb, leb}
-use borrow.Author.Tests.{lt-ltb, le-ltb, eq-eqb, ne_eqb, not-true, not-false}
+use borrow.Author.Tests.{eq-eqb, ne_eqb, not-true, not-false}
 use mir.Syntax.{w32, w64}
 use mir.Val.{Fits}
 use Rattle.words.specs.Words.{head_kind, head_open, head_dynamic, head_zero, head_count, field_optional, field_name, field_zero, child}
+use Rattle.std.specs.Prelude.{IsTrue, ◌↔◌, EachIndex}
 use Rattle.types.specs.Node.{below}
-use Rattle.types.proofs.Lists.{below_by}
+use Rattle.types.proofs.Lists.{below_by, below_at}
+use Rattle.types.proofs.Tests.{true_false, not_true}
 use Rattle.fix_values.specs.Values.{is_value, well, guess, encode}
 use Rattle.fix_values.specs.Inner.{field_good, fields_good, body_good}
 use Rattle.fix_values.proofs.ValueWords.{bodied_by, words_good, words_value}
@@ -23,27 +25,9 @@ pub word_next : (ws : List ℕ) (i : ℕ) → i < length ws → drop i ws ≡ ge
 word_next ws i l = drop-cons ws i 0 l ∙ ap (λ (n : ℕ). get_or ws i 0 ∷ drop n ws) (sym (add-one i))
 
 -- ---- elements
-pub record Elements (n : ℕ) (ws : List ℕ) (i : ℕ) : Type 0 where
-  pub same : below n ws ≡ below n (drop i ws)
-
-module _ {n : ℕ} {ws : List ℕ} where
-  pub elements_start : Elements n ws 0
-  elements_start = record { same = refl }
-
-  module _ {i : ℕ} (E : Elements n ws i) where
-    split : {x : ℕ} → i < length ws → x ≡ get_or ws i 0 → below n ws ≡ (ltb x n && below n (drop (i + 1) ws))
-    unfolding below
-    split l e = E.same ∙ ap (below n) (word_next ws i l) ∙ ap (λ (y : ℕ). ltb y n && below n (drop (i + 1) ws)) (sym e)
-
-    pub elements_bad : {x : ℕ} → i < length ws → x ≡ get_or ws i 0 → n ≤ x → false ≡ below n ws
-    elements_bad {x} l e h = sym (split l e ∙ ap (λ (b : Bool). b && below n (drop (i + 1) ws)) (le-ltb x n h))
-
-    pub elements_more : {x : ℕ} → i < length ws → x ≡ get_or ws i 0 → x < n → Elements n ws (i + 1)
-    elements_more {x} l e h = record { same = split l e ∙ ap (λ (b : Bool). b && below n (drop (i + 1) ws)) (lt-ltb x n h) }
-
-    pub elements_done : length ws ≤ i → true ≡ below n ws
-    unfolding below
-    elements_done h = sym (E.same ∙ ap (below n) (drop_of_length-le ws {i = i} h))
+pub all_below : (n : ℕ) (ws : List ℕ) (r : Bool) → (IsTrue r ↔ EachIndex ws (λ i. get_or ws i 0 < n)) → r ≡ below n ws
+all_below n ws true e = sym (below_by n ws (e.0 refl))
+all_below n ws false e = sym (not_true (below n ws) (λ f. true_false (sym (e.1 (below_at n ws f)))))
 
 -- ---- fields
 pub field_tests : (table n low w : ℕ) {m z x c : ℕ} {o : Bool} → m ≡ field_name w → o ≡ field_optional w → z ≡ field_zero w → x ≡ child w → c ≡ x
@@ -55,9 +39,6 @@ pub record Passed (table n : ℕ) (ws : List ℕ) (low i : ℕ) : Type 0 where
   pub same : fields_good table n 0 ws ≡ fields_good table n low (drop i ws)
 
 module _ {table n : ℕ} {ws : List ℕ} where
-  pub passed_start : Passed table n ws 0 0
-  passed_start = record { same = refl }
-
   module _ {low i : ℕ} (P : Passed table n ws low i) where
     cut : {t : Bool} → i < length ws → t ≡ field_good table n low (get_or ws i 0) → fields_good table n 0 ws ≡ (t && fields_good table n (suc (field_name (get_or ws i 0))) (drop (i + 1) ws))
     unfolding fields_good

@@ -1,5 +1,5 @@
 -- What the functions that check a fix, and read its values, ask and answer.
-use Rattle.std.specs.Prelude.{ℕ, suc, ◌≤◌, ◌<◌, ◌≡◌, Bool, true, false, not, ◌&&◌, List, [], ◌∷◌, ◌++◌, length, get_or, take, drop, eqb, ltb, leb}
+use Rattle.std.specs.Prelude.{Option, Some, None, ℕ, suc, ◌≤◌, ◌<◌, ◌≡◌, Bool, true, false, not, ◌&&◌, List, [], ◌∷◌, ◌++◌, length, get_or, take, drop, eqb, ltb, leb}
 use Rattle.std.proofs.Math.Option.{none, some}
 use Rattle.words.specs.Words.{field_optional, field_name, field_zero, head_count, child}
 use Rattle.types.specs.Node.{below}
@@ -38,9 +38,9 @@ abbrev pub span : List ℕ → ℕ → ℕ
 span ws at = suc (head_count (get_or ws at 0))
 
 -- r is how many words the value at this place takes, or 0 where none stands there
-pub record NextValue (table values : ℕ) (ws : List ℕ) (at r : ℕ) : Type 0 where
-  pub found : (r ≡ 0 → ⊥) → (r ≡ span ws at) × ((r ≤ length (drop at ws)) × (is_value table values (take (span ws at) (drop at ws)) ≡ true))
-  pub missing : r ≡ 0 → is_value table values (take (span ws at) (drop at ws)) ≡ false
+pub record NextValue (table values : ℕ) (ws : List ℕ) (at : ℕ) (r : Option ℕ) : Type 0 where
+  pub found : (n : ℕ) → r ≡ Some n → (n ≡ span ws at) × ((n ≤ length (drop at ws)) × (is_value table values (take (span ws at) (drop at ws)) ≡ true))
+  pub missing : r ≡ None → is_value table values (take (span ws at) (drop at ws)) ≡ false
 
 -- a list of places, for as many values as a fix may have
 pub record Unplaced (ps : List ℕ) : Type 0 where

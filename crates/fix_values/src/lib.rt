@@ -18,14 +18,7 @@ pub const SET: u32 = 7;
 fn elements_good(words: &[u32], values: usize) -> bool
     ensures { result ≡ below values words.now }
 {
-    let mut i = 0;
-    while i < words.len() {
-        if wide(words[i]) >= values {
-            return false;
-        }
-        i += 1;
-    }
-    true
+    words.iter().all(|word| wide(*word) < values)
 }
 
 // Whether a field word has no bit set that is to be zero, a name from `low` on that the table has, and a value before this one.
@@ -43,14 +36,11 @@ fn fields_good(words: &[u32], values: usize, names: usize) -> bool
     ensures { result ≡ fields_good names values 0 words.now }
 {
     let mut low = 0;
-    let mut i = 0;
-    while i < words.len() {
-        let word = words[i];
-        if !field_good(word, low, values, names) {
+    for word in words {
+        if !field_good(*word, low, values, names) {
             return false;
         }
-        low = field_name(word) + 1;
-        i += 1;
+        low = field_name(*word) + 1;
     }
     true
 }
@@ -85,38 +75,39 @@ fn value_good(value: &[u32], values: usize, names: usize) -> bool
     body_good(head.kind(), body, values, names)
 }
 
-// How many words the value takes that begins at `at`, after so many values; or 0 where none does.
-fn next_value(fix: &[u32], at: usize, values: usize, names: usize) -> usize
+// How many words the value takes that begins at `at`, after so many values.
+fn next_value(fix: &[u32], at: usize, values: usize, names: usize) -> Option<usize>
     requires { Behind fix.now at values }
     ensures { NextValue names values fix.now at result }
 {
     let head = Head { word: fix[at] };
     let len = 1 + head.count();
     if fix.len() - at < len {
-        return 0;
+        return None;
     }
     let end = at + len;
     if !value_good(&fix[at..end], values, names) {
-        return 0;
+        return None;
     }
-    len
+    Some(len)
 }
 
-// How many values the fix has, with the place of each; or 0 where the words are no fix under a table of so many names.
+// How many values the fix has, with the place of each; or 0 where the words are no fix under a table of so many names. No `Option`:
+// a fix has a value, so that 0 says all, and the place of a fix's last value needs the count either way.
 pub fn check_fix(fix: &[u32], names: usize, places: &mut [usize; 1024]) -> usize
     requires { Unplaced places.old }
     ensures { Checks names fix.now places.new result }
 {
+    // The place moves on by a value's length: a `for` over the numbers would need a second test, whether the words end there.
     let mut n = 0;
     let mut at = 0;
     while at < fix.len() {
         if n >= 1024 {
             return 0;
         }
-        let len = next_value(fix, at, n, names);
-        if len == 0 {
+        let Some(len) = next_value(fix, at, n, names) else {
             return 0;
-        }
+        };
         places[n] = at;
         at += len;
         n += 1;

@@ -18,10 +18,10 @@ use Rattle.types.proofs.Faults.{children_encode}
 use Rattle.types.proofs.Sound.{at_formed, child_lower}
 use Rattle.types.proofs.Memories.{unique}
 use Rattle.types.proofs.Addresses.{start_room}
-use Rattle.node_order.proofs.Splits.{body_lent}
+use Rattle.types.proofs.Lists.{body_lent}
 use Rattle.bits.specs.Bits.{has, Put}
 use Rattle.bits.specs.Inner.{Row}
-use Rattle.node_store.specs.Inner.Stored.{InRange, NodeAt}
+use Rattle.node_store.specs.Inner.Stored.{NodeAt}
 use Rattle.node_store.specs.Inner.Children.{ChildWords}
 use Rattle.free_vars.specs.FreeVars.{occurrences, add_all}
 use Rattle.free_vars.specs.Inner.{VarNode, Listing, VarRoom, AddsVar, Collecting, Collects}
@@ -67,9 +67,6 @@ module _ {w s : List ℕ} {c : Counters} {n : ℕ} {done vars : List ℕ} {count
 
   -- ---- the words of node n
   module _ {x : ℕ} (e : x ≡ n) where
-    pub collect_range : InRange w s c x
-    collect_range = record { lent = C.lent; inside = omega (arith, C.inside) }
-
     module _ {ws : List ℕ} (N : NodeAt w s c x ws) where
       its_words : ws ≡ encode (at view n)
       its_words = N.is _ view C.lent.holds ∙ ap (λ (k : ℕ). encode (at view k)) e

@@ -1,14 +1,10 @@
 -- The variables of the type of a root, each once, in the order in which a walk from left to right first meets them (01, "arena").
 use Rattle.std.specs.Prelude.{ℕ, Bool, true, false, ◌||◌, not, ◌&&◌, length, eqb}
 use mathlib.Core.List.{List, [], ◌∷◌, ◌++◌, foldl, flatten}
-use Rattle.types.specs.Out.{Out, ok, refuse}
 use Rattle.types.specs.Node.{Tag, members, bound, var, neg, form}
 use Rattle.types.specs.Arena.{Arena, fold}
 use Rattle.types.specs.Memory.{padded}
 use Rattle.free_vars.specs.declared.VarList.{VarList}
-use Rattle.free_vars.specs.declared.FreeVars.{FreeVars}
-use Rattle.free_vars.specs.declared.Answer.{Answer}
-use Rattle.free_vars.specs.declared.Answer.TheVariants as answer
 
 -- a variable has itself, and any other node what its children have, one after another
 unfoldable pub node_vars : Tag → List (List ℕ) → List ℕ
@@ -48,20 +44,6 @@ free_type_vars a root = add_all [] (occurrences a root)
 unfoldable pub free_list : Arena → ℕ → VarList
 unfolding free_type_vars
 free_list a root = record { vars = padded 4096 (free_type_vars a root); count = length (free_type_vars a root) }
-
--- the enum's cases, with the list that stands beside the enum: the variables listed; the number of a refusal
-abbrev pub listed_out : Answer → VarList → Out VarList
-listed_out answer.Listed l = ok l
-listed_out (answer.Refused e) l = refuse e
-
--- what an answer says
-abbrev pub free_vars_out : FreeVars → Out VarList
-free_vars_out r = listed_out r.answer r.list
-
--- the answer that says this and no more: of a refusal the list is empty. `free_vars_out` reads it back: the theorem `AnsweredOut`
-abbrev pub answered : Out VarList → FreeVars
-answered (ok l) = record { answer = answer.Listed; list = l }
-answered (refuse e) = record { answer = answer.Refused e; list = record { vars = padded 4096 []; count = 0 } }
 
 -- is no variable there twice?
 unfoldable pub distinct : List ℕ → Bool

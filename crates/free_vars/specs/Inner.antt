@@ -1,18 +1,17 @@
 -- What the walk that collects the variables asks and answers, and what is left where they are lent.
-use Rattle.std.specs.Prelude.{ℕ, ◌+◌, ◌<◌, ◌≡◌, true, List, length, get_or, set}
-use Rattle.types.specs.Out.{Out, ok, refuse}
+use Rattle.std.specs.Prelude.{ℕ, ◌+◌, ◌<◌, ◌≡◌, true, List, length, get_or, set, Ok, Err}
+use Rattle.types.specs.Out.{Out}
 use Rattle.types.specs.Node.{var, tag}
 use Rattle.types.specs.Arena.{Arena, at}
 use Rattle.types.specs.Memory.{padded, Holds}
 use Rattle.types.specs.declared.Counters.{Counters}
 use Rattle.bits.specs.Bits.{has, Put}
 use Rattle.bits.specs.Inner.{Row}
+use Rattle.types.specs.declared.refusal.Refusal.{Refusal}
 use Rattle.node_store.specs.Inner.Stored.{Lent}
 use Rattle.walks.specs.Asked.{asking}
 use Rattle.free_vars.specs.FreeVars.{occurrences, contains, add_all, distinct, free_list}
 use Rattle.free_vars.specs.declared.VarList.{VarList}
-use Rattle.free_vars.specs.declared.Listed.{Listed}
-use Rattle.free_vars.specs.declared.Listed.TheVariants as listed
 
 -- the list has every variable of node n
 abbrev pub Complete : Arena → List ℕ → ℕ → Type 0
@@ -65,15 +64,15 @@ pub record Collects (w s : List ℕ) (c : Counters) (n : ℕ) (done vars : List 
       → Listing a done' vars' count' (add_all l (occurrences a n))
 
 -- the enum's cases, with the array that is lent: the variables listed there; the number of a refusal
-abbrev pub lent_out : Listed → List ℕ → Out VarList
-lent_out (listed.Count n) vars = ok (record { vars = vars; count = n })
-lent_out (listed.Refused e) vars = refuse e
+abbrev pub lent_out : Out ℕ → List ℕ → Out VarList
+lent_out (Ok n) vars = Ok (record { vars = vars; count = n })
+lent_out (Err e) vars = Err e
 
 -- they say o, and a refusal leaves the array
-pub record Lists (o : Out VarList) (vars vars' : List ℕ) (r : Listed) : Type 0 where
+pub record Lists (o : Out VarList) (vars vars' : List ℕ) (r : Out ℕ) : Type 0 where
   pub is : lent_out r vars' ≡ o
-  pub kept : (e : ℕ) → r ≡ listed.Refused e → vars' ≡ vars
+  pub kept : (e : Refusal) → r ≡ Err e → vars' ≡ vars
 
 -- they say what follows 1 and 2, in any arena that memory holds
-pub record ListsIn (w s : List ℕ) (c : Counters) (root : ℕ) (vars vars' : List ℕ) (r : Listed) : Type 0 where
+pub record ListsIn (w s : List ℕ) (c : Counters) (root : ℕ) (vars vars' : List ℕ) (r : Out ℕ) : Type 0 where
   pub is : (table : ℕ) (a : Arena) → Holds table w s c a → Lists (asking free_list root a) vars vars' r

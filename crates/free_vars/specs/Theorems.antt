@@ -1,11 +1,9 @@
 -- What is shown of these definitions beyond the contracts. A statement with parameters holds for all of them.
 use Rattle.std.specs.Prelude.{ℕ, ◌<◌, ◌≡◌, true, length}
-use Rattle.types.specs.Out.{Out}
 use Rattle.types.specs.Node.{var, tag}
 use Rattle.types.specs.Arena.{Arena, at, sound}
 use Rattle.types.specs.Places.{Reachable}
-use Rattle.free_vars.specs.FreeVars.{contains, free_type_vars, free_vars_out, answered}
-use Rattle.free_vars.specs.declared.VarList.{VarList}
+use Rattle.free_vars.specs.FreeVars.{contains, free_type_vars}
 use Rattle.free_vars.specs.FreeVars.{distinct}
 
 -- no variable is listed twice (01, "arena")
@@ -29,7 +27,3 @@ abbrev pub PlaceListed : Type 0
 PlaceListed =
     (table : ℕ) (a : Arena) → sound table a ≡ true → (root : ℕ) → root < length a → (v : ℕ) → VarPlace a root v
     → contains (free_type_vars a root) v ≡ true
-
--- an answer says what it was made from, so that the contract fixes what it says by the enum's cases (01, "Forms and where they belong")
-abbrev pub AnsweredOut : Type 0
-AnsweredOut = (o : Out VarList) → free_vars_out (answered o) ≡ o

@@ -6,43 +6,21 @@ ghost use Rattle.types.specs.Memory.{padded};
 ghost use Rattle.node_store.specs.Inner.Stored.{Lent, InRange};
 ghost use Rattle.walks.specs.Asked.{ask_reply};
 ghost use Rattle.walks.specs.Inner.Asked.{Says};
-ghost use Rattle.free_vars.specs.FreeVars.{free_list, answered};
+ghost use Rattle.free_vars.specs.FreeVars.{free_list};
 ghost use Rattle.free_vars.specs.Inner.{VarRoom, AddsVar, Collecting, Collects, Lists, ListsIn};
 
 use bits::{put, test};
 use node_store::children::child_words;
 use node_store::stored::node_at;
-use soundness::{Judged, judge};
-use types::Counters;
+use soundness::judge;
 use types::arc_ty::{Head, child, wide};
+use types::{Counters, Refusal};
 
 // Variables in the order of their first visit, and how many there are; zeros after them.
 #[derive(Drop)]
 pub struct VarList {
     pub vars: [u32; 4096],
     pub count: usize,
-}
-
-// Whether they are listed, or the number of a refusal.
-#[derive(Clone, Copy)]
-pub enum Answer {
-    Listed,
-    Refused(u32),
-}
-
-// The answer and its list. The list stands beside the enum, since functions on an enum that holds an array are proved by hand;
-// of a refusal it is empty. Whoever has a place for the list calls `list_free_type_vars`, which moves nothing.
-#[derive(Drop)]
-pub struct FreeVars {
-    pub answer: Answer,
-    pub list: VarList,
-}
-
-// How many variables are listed where they are lent, or the number of a refusal.
-#[derive(Clone, Copy)]
-pub enum Listed {
-    Count(usize),
-    Refused(u32),
 }
 
 // Lists the variable in a node's body behind the others, and marks the node.
@@ -86,12 +64,9 @@ fn collect(
     if head.kind() == Head::TY_VAR {
         return add_var(&node[1..], n, done, vars, count);
     }
-    let body = child_words(node);
     let mut total = count;
-    let mut i = 0;
-    while i < body.len() {
-        total = collect(words, starts, c, child(body[i]), done, vars, total);
-        i += 1;
+    for word in child_words(node) {
+        total = collect(words, starts, c, child(*word), done, vars, total);
     }
     put(done, n);
     total
@@ -120,15 +95,15 @@ fn list_root(
     c: Counters,
     root: u32,
     vars: &mut [u32; 4096],
-) -> Listed
+) -> Result<usize, Refusal>
     requires { Lent words.now starts.now c }
     ensures { ListsIn words.now starts.now c root vars.old vars.new result }
 {
     if wide(root) >= c.nodes {
-        return Listed::Refused(6);
+        return Err(Refusal::NoSuchRoot);
     }
     *vars = [0u32; 4096];
-    Listed::Count(list_vars(words, starts, c, root, vars))
+    Ok(list_vars(words, starts, c, root, vars))
 }
 
 // The variables of the type of the root, where they are lent; a refusal leaves what is there.
@@ -139,37 +114,25 @@ pub fn list_free_type_vars(
     c: Counters,
     root: u32,
     vars: &mut [u32; 4096],
-) -> Listed
+) -> Result<usize, Refusal>
     ensures { Lists (ask_reply free_list table.now words.now starts.now c root)
         vars.old vars.new result }
 {
-    let lent = judge(table, words, starts, c);
-    match lent {
-        Judged::Names(count) => list_root(words, starts, c, root, vars),
-        Judged::Refused(number) => Listed::Refused(number),
-    }
+    judge(table, words, starts, c)?;
+    list_root(words, starts, c, root, vars)
 }
 
-// The variables of the type of the root.
+// The variables of the type of the root. Whoever has a place for the list calls `list_free_type_vars`, which moves nothing.
 pub fn free_type_vars(
     table: &[u8],
     words: &[u32],
     starts: &[u32],
     c: Counters,
     root: u32,
-) -> FreeVars
-    ensures { result ≡ answered (ask_reply free_list table.now words.now starts.now c root) }
+) -> Result<VarList, Refusal>
+    ensures { result ≡ ask_reply free_list table.now words.now starts.now c root }
 {
     let mut vars = [0u32; 4096];
-    let listed = list_free_type_vars(table, words, starts, c, root, &mut vars);
-    match listed {
-        Listed::Count(count) => FreeVars {
-            answer: Answer::Listed,
-            list: VarList { vars, count },
-        },
-        Listed::Refused(number) => FreeVars {
-            answer: Answer::Refused(number),
-            list: VarList { vars, count: 0 },
-        },
-    }
+    let count = list_free_type_vars(table, words, starts, c, root, &mut vars)?;
+    Ok(VarList { vars, count })
 }

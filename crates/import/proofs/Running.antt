@@ -5,14 +5,14 @@ use mathlib.Core.Bool.{Bool, true, false}
 use mathlib.Core.List.{List}
 use native.Mathlib.Omega.{arith}
 use lib.ListN.{length, replicate}
-use Rattle.types.specs.Out.{refuse}
+use Rattle.std.specs.Prelude.{Err}
+use Rattle.types.specs.Out.{Out}
+use Rattle.types.specs.declared.refusal.Refusal.TheVariants as refusal
 use Rattle.types.specs.Arena.{Arena}
 use Rattle.types.specs.declared.Counters.{Counters}
 use Rattle.name_matching.specs.Inner.{Matches, Maps, Blank}
 use Rattle.name_matching.proofs.Merging.{blank}
 use Rattle.node_store.specs.Inner.Stored.{Lent, InRange}
-use Rattle.node_store.specs.declared.added.Interned.{Interned}
-use Rattle.node_store.specs.declared.added.Interned.TheVariants as interned
 use Rattle.soundness.specs.Inner.Sides.{Side}
 use Rattle.soundness.proofs.Sides.{side_lent}
 use Rattle.walks.specs.Inner.Asked.{Says}
@@ -34,7 +34,7 @@ module _ {ks w s : List ℕ} {c : Counters} {root : ℕ} {tw ts : List ℕ} {d :
   pub run_ready : RunReady ks w s c root tw ts d → Ready (import_node (by_map ks)) (Foreign ks w s c) tw ts d root (replicate 4096 0)
   run_ready R = record { table = R.table; source = R.source; view = R.target; holds = R.to; beside = R.beside; inside = R.inside; cache = cache_none }
 
-  pub run_made : {tw' ts' entries : List ℕ} {r : Interned} → Does (import_node (by_map ks)) (Foreign ks w s c) tw ts d root (replicate 4096 0) tw' ts' entries r → Runs ks w s c root tw ts d tw' ts' r
+  pub run_made : {tw' ts' entries : List ℕ} {r : Out (ℕ × Counters)} → Does (import_node (by_map ks)) (Foreign ks w s c) tw ts d root (replicate 4096 0) tw' ts' entries r → Runs ks w s c root tw ts d tw' ts' r
   run_made D = record { is = λ table u a Q H l. leads_once (D.is table u a H Q l cache_none) }
 
 -- ---- what precedes it
@@ -66,12 +66,12 @@ module _ {t w s : List ℕ} {c : Counters} {tt tw ts : List ℕ} {d : Counters} 
         lacking S T = L.is (length S.names) S.view S.holds ∙ (λ j. lacks (map_is t S.names S.is tt T.names T.is (matches S T) j) S.view (e j))
 
         -- 12, and nothing is stored
-        pub lacking_refused : b ≡ true → ImportsIn t w s c root tt tw ts d tw ts (interned.Refused 12)
+        pub lacking_refused : b ≡ true → ImportsIn t w s c root tt tw ts d tw ts (Err refusal.NameAbsent)
         unfolding import_from_arena
         lacking_refused q = record {
           is = λ S T.
-              let o : imports S.names T.names tw ts root T.view S.view ≡ refuse 12 = rw (import_from_arena, sym (lacking S T) ∙ q) in
-              subst (LeadsOnce (length T.names) T.view tw ts (interned.Refused 12)) (sym o) (stop (holds_stands T.holds));
+              let o : imports S.names T.names tw ts root T.view S.view ≡ Err refusal.NameAbsent = rw (import_from_arena, sym (lacking S T) ∙ q) in
+              subst (LeadsOnce (length T.names) T.view tw ts (Err refusal.NameAbsent)) (sym o) (stop (holds_stands T.holds));
         }
 
         module _ (l : root < c.nodes) (q : b ≡ false) where
@@ -89,7 +89,7 @@ module _ {t w s : List ℕ} {c : Counters} {tt tw ts : List ℕ} {d : Counters} 
                 complete = record { is = λ own u H. ap (lacks (by_map ks) u) (sym e) ∙ sym (L.is own u H) ∙ q };
               }
 
-          pub named_done : {tw' ts' : List ℕ} {r : Interned} → Runs ks w s c root tw ts d tw' ts' r → ImportsIn t w s c root tt tw ts d tw' ts' r
+          pub named_done : {tw' ts' : List ℕ} {r : Out (ℕ × Counters)} → Runs ks w s c root tw ts d tw' ts' r → ImportsIn t w s c root tt tw ts d tw' ts' r
           unfolding import_from_arena
           named_done {tw'} {ts'} {r} R = record {
             is = λ S T.

@@ -9,7 +9,6 @@ use Rattle.names.specs.Table.{Name}
 use Rattle.soundness.specs.Lent.{lent_to}
 use Rattle.soundness.specs.Inner.Sides.{Side}
 use Rattle.node_store.specs.Intern.{left}
-use Rattle.node_store.specs.declared.added.Interned.{Interned}
 use Rattle.recursion.specs.Inner.Hosted.{LeadsOnce}
 use Rattle.importing.specs.Import.{number_in, import_node, import_from_arena}
 use Rattle.importing.specs.Inner.Names.{by_map}
@@ -31,7 +30,7 @@ pub record RunReady (ks w s : List ℕ) (c : Counters) (root : ℕ) (tw ts : Lis
 
 -- the outcome is that of the recursion
 pub record Runs (ks w s : List ℕ) (c : Counters) (root : ℕ) (tw ts : List ℕ) (d : Counters) (tw' ts' : List ℕ)
-    (r : Interned) : Type 0 where
+    (r : Out (ℕ × Counters)) : Type 0 where
   pub is : (table : ℕ) (u a : Arena) → Foreign ks w s c table u a → Holds table tw ts d a → root < length u
       → LeadsOnce table a tw' ts' r (import_node (by_map ks) (length tw) (length ts) u root a)
 
@@ -42,19 +41,19 @@ pub record Sides (t w s : List ℕ) (c : Counters) (tt tw ts : List ℕ) (d : Co
 
 -- the outcome is the definition's, for a root that is there
 pub record ImportsIn (t w s : List ℕ) (c : Counters) (root : ℕ) (tt tw ts : List ℕ) (d : Counters) (tw' ts' : List ℕ)
-    (r : Interned) : Type 0 where
+    (r : Out (ℕ × Counters)) : Type 0 where
   pub is : (S : Side t w s c) (T : Side tt tw ts d)
       → LeadsOnce (length T.names) T.view tw' ts' r (imports S.names T.names tw ts root T.view S.view)
 
 -- the reply, after 1 and 2 of both
 pub record ImportsLent (t w s : List ℕ) (c : Counters) (root : ℕ) (tt tw ts : List ℕ) (d : Counters) (tw' ts' : List ℕ)
-    (r : Interned) : Type 0 where
+    (r : Out (ℕ × Counters)) : Type 0 where
   pub is : (S : Side t w s c) (T : Side tt tw ts d)
       → left d r tw' ts' ≡ reply_of tw ts d (rooted root (imports S.names T.names tw ts root T.view) S.view)
 
 -- the reply, after 1 and 2 of the source
 pub record ImportsJudged (t w s : List ℕ) (c : Counters) (root : ℕ) (tt tw ts : List ℕ) (d : Counters) (tw' ts' : List ℕ)
-    (r : Interned) : Type 0 where
+    (r : Out (ℕ × Counters)) : Type 0 where
   pub is : (S : Side t w s c)
       → left d r tw' ts' ≡ reply_of tw ts d (lent_to tt tw ts d (λ (ms : List Name) (b : Arena).
       rooted root (imports S.names ms tw ts root b) S.view))

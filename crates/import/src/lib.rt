@@ -11,11 +11,10 @@ use importing::lacking::lacks_name;
 use importing::nodes::import_node;
 use name_matching::match_names;
 use node_filter::set_all_bits;
-use node_store::added::Interned;
 use recursion::take_back_nodes;
-use soundness::{Judged, judge};
-use types::Counters;
+use soundness::judge;
 use types::arc_ty::wide;
+use types::{Counters, Refusal};
 
 // The import of a root none of whose names is lacking. A refusal leaves the nodes that were added.
 fn import_named(
@@ -27,7 +26,7 @@ fn import_named(
     target_words: &mut [u32],
     target_starts: &mut [u32],
     d: Counters,
-) -> Interned
+) -> Result<(u32, Counters), Refusal>
     requires { RunReady names.now words.now starts.now c root target_words.old target_starts.old d }
     ensures { Runs names.now words.now starts.now c root target_words.old
         target_starts.old d target_words.new target_starts.new result }
@@ -61,7 +60,7 @@ fn import_in(
     target_words: &mut [u32],
     target_starts: &mut [u32],
     d: Counters,
-) -> Interned
+) -> Result<(u32, Counters), Refusal>
     requires sides { Sides table.now words.now starts.now c target_table.now target_words.old target_starts.old d }
     requires root_lt_nodes { root < c.nodes }
     ensures { ImportsIn table.now words.now starts.now c root
@@ -71,7 +70,7 @@ fn import_in(
     let mut names = [0u32; 4096];
     match_names(table, target_table, &mut names);
     if lacks_name(words, starts, c, wide(root), &names) {
-        return Interned::Refused(12);
+        return Err(Refusal::NameAbsent);
     }
     import_named(
         words,
@@ -96,14 +95,14 @@ fn import_lent(
     target_words: &mut [u32],
     target_starts: &mut [u32],
     d: Counters,
-) -> Interned
+) -> Result<(u32, Counters), Refusal>
     requires { Sides table.now words.now starts.now c target_table.now target_words.old target_starts.old d }
     ensures { ImportsLent table.now words.now starts.now c root
         target_table.now target_words.old target_starts.old d
         target_words.new target_starts.new result }
 {
     if wide(root) >= c.nodes {
-        return Interned::Refused(6);
+        return Err(Refusal::NoSuchRoot);
     }
     let r = import_in(
         table,
@@ -116,11 +115,11 @@ fn import_lent(
         target_starts,
         d,
     );
-    let Interned::Refused(number) = r else {
+    let Err(refusal) = r else {
         return r;
     };
     take_back_nodes(target_words, target_starts, d);
-    Interned::Refused(number)
+    Err(refusal)
 }
 
 // The same in a target that isn't known to be sound.
@@ -134,27 +133,24 @@ fn import_judged(
     target_words: &mut [u32],
     target_starts: &mut [u32],
     d: Counters,
-) -> Interned
+) -> Result<(u32, Counters), Refusal>
     requires { Side table.now words.now starts.now c }
     ensures { ImportsJudged table.now words.now starts.now c root
         target_table.now target_words.old target_starts.old d
         target_words.new target_starts.new result }
 {
-    let lent = judge(target_table, target_words, target_starts, d);
-    let Judged::Refused(number) = lent else {
-        return import_lent(
-            table,
-            words,
-            starts,
-            c,
-            root,
-            target_table,
-            target_words,
-            target_starts,
-            d,
-        );
-    };
-    Interned::Refused(number)
+    judge(target_table, target_words, target_starts, d)?;
+    import_lent(
+        table,
+        words,
+        starts,
+        c,
+        root,
+        target_table,
+        target_words,
+        target_starts,
+        d,
+    )
 }
 
 // The type of the root, imported into the target: its nodes are met children first and from left to right, each once, and each is
@@ -169,24 +165,21 @@ pub fn import_from_arena(
     target_words: &mut [u32],
     target_starts: &mut [u32],
     d: Counters,
-) -> Interned
+) -> Result<(u32, Counters), Refusal>
     ensures { left d result target_words.new target_starts.new
         ≡ import_reply table.now words.now starts.now c root
         target_table.now target_words.old target_starts.old d }
 {
-    let lent = judge(table, words, starts, c);
-    let Judged::Refused(number) = lent else {
-        return import_judged(
-            table,
-            words,
-            starts,
-            c,
-            root,
-            target_table,
-            target_words,
-            target_starts,
-            d,
-        );
-    };
-    Interned::Refused(number)
+    judge(table, words, starts, c)?;
+    import_judged(
+        table,
+        words,
+        starts,
+        c,
+        root,
+        target_table,
+        target_words,
+        target_starts,
+        d,
+    )
 }

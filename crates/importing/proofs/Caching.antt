@@ -6,7 +6,8 @@ use mathlib.Core.List.{List, [], ◌∷◌, Memᴰ as Mem, map}
 use mathlib.Core.Option.{Option}
 use native.Mathlib.Omega.{arith}
 use lib.ListN.{length}
-use Rattle.types.specs.Out.{refuse}
+use Rattle.std.specs.Prelude.{Err}
+use Rattle.types.specs.declared.refusal.Refusal.TheVariants as refusal
 use Rattle.types.specs.Node.{Tag, Node, tag, children, names}
 use Rattle.types.specs.Arena.{Arena, at, sound, here}
 use Rattle.types.specs.declared.Counters.{Counters}
@@ -36,7 +37,7 @@ module _ (f : ℕ → Option ℕ) where
   lacks_none own u g n l e = (neither (lacks_one f (names (tag (at u n)))) _ (sym (lacks_at own u g n l) ∙ e)).0
 
   module _ (words starts : ℕ) where
-    step_lacks : (s : Arena) (x : Node) (g : ℕ → Job) (a : Arena) → lacks_one f (names (tag x)) ≡ true → import_step f words starts s x g a ≡ refuse 12
+    step_lacks : (s : Arena) (x : Node) (g : ℕ → Job) (a : Arena) → lacks_one f (names (tag x)) ≡ true → import_step f words starts s x g a ≡ Err refusal.NameAbsent
     unfolding import_step
     step_lacks s x g a e = rw (import_step, e)
 
@@ -51,9 +52,9 @@ module _ (f : ℕ → Option ℕ) where
     import_at own u g n l e b =
         let B = before u n l in
         let low : (c : ℕ) → Mem c (children (at u n)) → c < length B.older = λ c k. let j = index_of k in omega (arith, j.is, B.count, child_lower own u g n l j.index j.inside) in
-        (λ i. rec_at (import_step f words starts) (λ a. refuse 6) u n l i b)
+        (λ i. rec_at (import_step f words starts) (λ a. Err refusal.NoSuchRoot) u n l i b)
         ∙ step_named B.older (at u n) (import_node f words starts B.older) b e
-        ∙ rebuild_same words starts (renamed f (tag (at u n))) (import_node f words starts B.older) (import_node f words starts u) (children (at u n)) (λ c k. sym (ext_rec (import_step f words starts) (λ a. refuse 6) B.older u (ext_tail B.ext) c (low c k))) b
+        ∙ rebuild_same words starts (renamed f (tag (at u n))) (import_node f words starts B.older) (import_node f words starts u) (children (at u n)) (λ c k. sym (ext_rec (import_step f words starts) (λ a. Err refusal.NoSuchRoot) B.older u (ext_tail B.ext) c (low c k))) b
 
     -- ---- the cache law
     module _ (own table : ℕ) (N : Numbering f table) (few : starts ≤ 4096) where
@@ -61,14 +62,14 @@ module _ (f : ℕ → Option ℕ) where
       step_steady x s g h k = go (lacks_one f (names (tag x))) refl
         where
           go : (b : Bool) → lacks_one f (names (tag x)) ≡ b → Steady table [] There (import_step f words starts s x g)
-          go true e = steady_as (import_step f words starts s x g) (λ a. refuse 12) (λ a _. step_lacks s x g a e) (refusal_steady 12)
+          go true e = steady_as (import_step f words starts s x g) (λ a. Err refusal.NameAbsent) (λ a _. step_lacks s x g a e) (refusal_steady refusal.NameAbsent)
           go false e =
               steady_as (import_step f words starts s x g) (rebuild words starts (renamed f (tag x)) (children x) g) (λ a _. step_named s x g a e)
               (rebuild_steady words starts table few [] (length s) (renamed f (tag x)) (children x) g (renamed_well f N own (length s) (tag x) (children x) (step_well own x s h) e) (λ c m. k c (step_child own x s h c m)))
 
       pub import_steady : (u : Arena) → sound own u ≡ true → (n : ℕ) → n < length u → Steady table [] There (import_node f words starts u n)
       unfolding import_node
-      import_steady u g n l = rec_steady own table {Y = Job} {I = ℕ} (λ j i. j) (import_step f words starts) (λ a. refuse 6) (λ s. []) (λ x s. here) (λ x s h e k i. step_steady x s h e (λ c m. k c m i)) u g n l 0
+      import_steady u g n l = rec_steady own table {Y = Job} {I = ℕ} (λ j i. j) (import_step f words starts) (λ a. Err refusal.NoSuchRoot) (λ s. []) (λ x s. here) (λ x s h e k i. step_steady x s h e (λ c m. k c m i)) u g n l 0
 
 pub import_lawful : {ks w s : List ℕ} {c : Counters} → Lawful (import_node (by_map ks)) (Foreign ks w s c)
 import_lawful {ks} = record {

@@ -1,13 +1,15 @@
--- The loops over the field words of a node: those renamed so far, and those passed that the map has.
+-- The field words of a node: those renamed so far, and whether the map lacks the name of one.
 use Prim.Native.Nat.{ℕ, zero, suc, ◌+◌, ◌-◌, ◌<◌, ◌≤◌}
-use mathlib.Core.Path.{◌≡◌, refl, sym, ap, ◌∙◌}
-use mathlib.Core.Bool.{Bool, true, false, ◌||◌}
-use mathlib.Core.List.{List, map}
+use mathlib.Core.Path.{◌≡◌, refl, sym, ap, ap₂, ◌∙◌}
+use mathlib.Core.Bool.{Bool, ◌||◌}
+use mathlib.Core.List.{List, [], ◌∷◌, map}
 use native.Mathlib.Omega.{arith}
-use native.Mathlib.Numerals.{add-one}
 use native.Mathlib.Decide.{ℕ_discrete}
-use lib.ListN.{length, get_or, drop, set, length-set, drop_of_length-le, get_or-eq_default}
-use lib.Seq.{drop-cons, get_or-set_same, get_or-set_other}
+use lib.ListN.{length, get_or, set, length-set, get_or-eq_default}
+use lib.Seq.{get_or-set_same, get_or-set_other}
+use lib.Dec.{eqb}
+use borrow.Author.Tests.{ne_eqb}
+use Rattle.std.specs.List.{list_any}
 use Rattle.words.specs.Words.{FieldFits, field_word, field_optional, field_name, child}
 use Rattle.types.specs.Arena.{absent}
 use Rattle.importing.specs.Import.{lacks_one}
@@ -71,41 +73,16 @@ module _ {ks : List ℕ} {count : ℕ} {ws : List ℕ} (R : Renaming ks count ws
     pub turn_done : count ≤ i → Renames ks count ws ws'
     turn_done h = let e : i ≡ count = omega (arith, h, T.turn) in rw e at T.done
 
--- ---- none of the first i is lacking
-pub record Passed (ks ws : List ℕ) (i : ℕ) : Type 0 where
-  pub same : lacks_one (by_map ks) (map field_name ws) ≡ lacks_one (by_map ks) (map field_name (drop i ws))
+-- ---- whether one is lacking
+-- whether the map lacks the name of a field word
+abbrev pub is_lacking : List ℕ → ℕ → Bool
+is_lacking ks w = eqb (get_or ks (field_name w) 0) 0
 
-entry_none : (n : ℕ) → n ≡ 0 → absent (entry n) ≡ true
-entry_none n e = ap (λ (m : ℕ). absent (entry m)) e
+zero_lacks : (n : ℕ) → eqb n 0 ≡ absent (entry n)
+zero_lacks zero = refl
+zero_lacks (suc n) = ne_eqb (suc n) 0 (λ e. omega arith)
 
-entry_some : (n : ℕ) → (n ≡ 0 → ⊥) → absent (entry n) ≡ false
-entry_some zero f = absurd (f refl)
-entry_some (suc n) f = refl
-
-module _ {ks ws : List ℕ} where
-  pub passed_start : Passed ks ws 0
-  passed_start = record { same = refl }
-
-  module _ {i : ℕ} (P : Passed ks ws i) where
-    module _ (h : i < length ws) {m : ℕ} (e : m ≡ get_or ks (field_name (get_or ws i 0)) 0) where
-      next : lacks_one (by_map ks) (map field_name ws) ≡ (absent (entry m) || lacks_one (by_map ks) (map field_name (drop (i + 1) ws)))
-      unfolding lacks_one
-      next =
-          P.same ∙ ap (λ (l : List ℕ). lacks_one (by_map ks) (map field_name l)) (drop-cons ws i 0 h)
-          ∙ (λ j. absent (entry (back j)) || lacks_one (by_map ks) (map field_name (drop (one j) ws)))
-        where
-          back : get_or ks (field_name (get_or ws i 0)) 0 ≡ m
-          back = sym e
-
-          one : suc i ≡ i + 1
-          one = sym (add-one i)
-
-      pub passed_lacks : m ≡ 0 → true ≡ lacks_one (by_map ks) (map field_name ws)
-      passed_lacks q = sym (next ∙ rw (entry_none m q))
-
-      pub passed_more : (m ≡ 0 → ⊥) → Passed ks ws (i + 1)
-      passed_more q = record { same = next ∙ rw (entry_some m q) }
-
-    pub passed_all : length ws ≤ i → false ≡ lacks_one (by_map ks) (map field_name ws)
-    unfolding lacks_one
-    passed_all h = sym (P.same ∙ ap (λ (l : List ℕ). lacks_one (by_map ks) (map field_name l)) (drop_of_length-le ws {i = i} h))
+pub any_lacking : (ks ws : List ℕ) → list_any (is_lacking ks) ws ≡ lacks_one (by_map ks) (map field_name ws)
+unfolding lacks_one
+any_lacking ks [] = refl
+any_lacking ks (w ∷ ws) = ap₂ (λ (x y : Bool). x || y) (zero_lacks (get_or ks (field_name w) 0)) (any_lacking ks ws)

@@ -9,6 +9,7 @@ use lib.Seq.{length-take-le}
 use mir.Syntax.{w64}
 use mir.Val.{Fits}
 use Rattle.words.specs.Words.{head_kind, head_dynamic}
+use Rattle.types.specs.Out.{Out}
 use Rattle.types.specs.Node.{Tag, Node, node, tag, data_of, children, names, head_of, encode, encode_in, below, formed, well, IsNode}
 use Rattle.types.specs.Arena.{Arena, at}
 use Rattle.types.specs.Memory.{Holds}
@@ -21,7 +22,6 @@ use Rattle.node_order.specs.WordsOrder.{field_count}
 use Rattle.node_order.specs.Inner.{FieldCount}
 use Rattle.node_store.specs.Inner.Stored.{InRange, NodeAt}
 use Rattle.node_store.specs.Inner.Added.{Fresh, Interns}
-use Rattle.node_store.specs.declared.added.Interned.{Interned}
 use Rattle.recursion.proofs.Interning.{well_again}
 use Rattle.rebuilding.specs.Inner.Rebuilt.{AsMany, Exchanging, Exchanged}
 use Rattle.rebuilding.proofs.Exchanging.{length_given}
@@ -95,7 +95,7 @@ module _ {ks w s : List ℕ} {c : Counters} {n : ℕ} {items : List ℕ} {count 
       imports_by : {ws' : List ℕ} → ((own : ℕ) (u : Arena) → Holds own w s c u → ws' ≡ encode (node (renamed (by_map ks) (tag (at u n))) es)) → Fresh tw ts d ws'
       imports_by f = record { table = R.table; view = R.target; holds = R.to; node = node (renamed (by_map ks) (tag (at R.source n))) es; is = may_add R.beside R.to (f R.beside.own R.source R.beside.holds) }
 
-      imported_by : {ws' : List ℕ} → ((own : ℕ) (u : Arena) → Holds own w s c u → ws' ≡ encode (node (renamed (by_map ks) (tag (at u n))) es)) → {tw' ts' : List ℕ} {o : Interned} → Interns tw ts d ws' tw' ts' o
+      imported_by : {ws' : List ℕ} → ((own : ℕ) (u : Arena) → Holds own w s c u → ws' ≡ encode (node (renamed (by_map ks) (tag (at u n))) es)) → {tw' ts' : List ℕ} {o : Out (ℕ × Counters)} → Interns tw ts d ws' tw' ts' o
           → Imports ks w s c n items count tw ts d tw' ts' o
       unfolding es
       imported_by f I = record { is = λ table u a Q T. I.is table a (node (renamed (by_map ks) (tag (at u n))) es) T (may_add Q T (f Q.own u Q.holds)) }
@@ -115,7 +115,7 @@ module _ {ks w s : List ℕ} {c : Counters} {n : ℕ} {items : List ℕ} {count 
         pub leaf_fresh : Fresh tw ts d ws
         leaf_fresh = imports_by leaf_words
 
-        pub leaf_imported : {tw' ts' : List ℕ} {o : Interned} → Interns tw ts d ws tw' ts' o → Imports ks w s c n items count tw ts d tw' ts' o
+        pub leaf_imported : {tw' ts' : List ℕ} {o : Out (ℕ × Counters)} → Interns tw ts d ws tw' ts' o → Imports ks w s c n items count tw ts d tw' ts' o
         leaf_imported = imported_by leaf_words
 
       -- ---- of another the children are exchanged, and then the fields renamed
@@ -172,5 +172,5 @@ module _ {ks w s : List ℕ} {c : Counters} {n : ℕ} {items : List ℕ} {count 
             pub import_fresh : Fresh tw ts d (take (count + 1) new')
             import_fresh = imports_by new_words
 
-            pub imported : {tw' ts' : List ℕ} {o : Interned} → Interns tw ts d (take (count + 1) new') tw' ts' o → Imports ks w s c n items count tw ts d tw' ts' o
+            pub imported : {tw' ts' : List ℕ} {o : Out (ℕ × Counters)} → Interns tw ts d (take (count + 1) new') tw' ts' o → Imports ks w s c n items count tw ts d tw' ts' o
             imported = imported_by new_words

@@ -7,8 +7,6 @@ use native.Mathlib.Omega.{arith}
 use native.Mathlib.Decide.{ℕ_discrete}
 use lib.ListN.{length, get_or, take, drop}
 use borrow.Author.Tests.{not-true, not-false}
-use mir.Syntax.{w64}
-use mir.Val.{Fits}
 use Rattle.words.specs.Words.{head_kind, head_dynamic, field_name}
 use Rattle.types.specs.Kind.{disc}
 use Rattle.types.specs.Node.{primitive, list, lambda, attrset, named, Tag, members, bound, var, neg, form, Node, node, tag, positive, negative, kind, data_of, field_names, names, body, head_of, encode, encode_in, field_of, formed}
@@ -105,9 +103,6 @@ module _ {ks w s : List ℕ} {c : Counters} {root : ℕ} {met : List ℕ} where
 
     pub searching_long : length ks ≡ 4096
     searching_long = S.long
-
-    pub searching_next : n < c.nodes → Fits w64 (n + 1)
-    searching_next l = let k = few in omega (arith, k)
 
     pub searching_found : n < c.nodes → {r : Bool} → LacksMet w s c n met ks r → r ≡ true → Says (lacks (by_map ks)) w s c root true
     searching_found l L e = record {

@@ -8,7 +8,8 @@ use native.Mathlib.Omega.{arith}
 use lib.ListN.{length, get_or, get_or-eq_default}
 use lib.Dec.{ltb}
 use borrow.Author.Tests.{ltb-true, ltb-false}
-use Rattle.types.specs.Out.{Out, ok, required}
+use Rattle.std.specs.Prelude.{Ok}
+use Rattle.types.specs.Out.{Out, required}
 use Rattle.types.proofs.Orders.{order_less, order_lt}
 use Rattle.names.specs.Table.{Name, name_order, names_of}
 use Rattle.names.proofs.Numbers.{names_few, names_good, number_order}
@@ -32,13 +33,13 @@ module _ (ns : List Name) (u : List ℕ) (ms : List Name) (e : names_of u ≡ so
   unfolding number_in
   number_is f = ap (λ (c : Bool). elim c [ true ↦ some (position ms (get_or ns k [])).place | false ↦ none ]) f
 
-  told : find_reply u (get_or ns k []) ≡ ok (position ms (get_or ns k []))
+  told : find_reply u (get_or ns k []) ≡ Ok (position ms (get_or ns k []))
   unfolding required
   told = reply_of u (get_or ns k []) e
 
   pub number_of : (p : ℕ) → IsName ms (get_or ns k []) p → number_in ns ms k ≡ some p
   number_of p I =
-      let q : ok (position ms (get_or ns k [])) ≡ ok (record { found = true; place = p }) = sym told ∙ (finds_exactly u ms e (get_or ns k [])).finds p I in
+      let q : Ok (position ms (get_or ns k [])) ≡ Ok (record { found = true; place = p }) = sym told ∙ (finds_exactly u ms e (get_or ns k [])).finds p I in
       let r : position ms (get_or ns k []) ≡ record { found = true; place = p } = cc in
       number_is (ap (λ (o : Position). o.found) r) ∙ ap (λ (o : Position). some o.place) r
 
@@ -54,7 +55,7 @@ module _ (ns : List Name) (u : List ℕ) (ms : List Name) (e : names_of u ≡ so
       go true f =
           let p = (position ms (get_or ns k [])).place in
           let q : position ms (get_or ns k []) ≡ record { found = true; place = p } = λ i. record { found = f i; place = p } in
-          has p ((finds_exactly u ms e (get_or ns k [])).found p (told ∙ ap {B = Out Position} ok q)) (number_is f)
+          has p ((finds_exactly u ms e (get_or ns k [])).found p (told ∙ ap {B = Out Position} Ok q)) (number_is f)
       go false f = lacks (number_is f)
 
   pub number_text : (p : ℕ) → number_in ns ms k ≡ some p → IsName ms (get_or ns k []) p

@@ -5,18 +5,17 @@ use mathlib.Core.List.{List}
 use native.Mathlib.Omega.{arith}
 use lib.ListN.{length, get_or, take}
 use lib.Seq.{length-take-le, get_or-take}
+use Rattle.std.specs.Prelude.{Ok, Err}
+use Rattle.types.specs.declared.refusal.Refusal.{Refusal}
+use Rattle.types.specs.Out.{Out}
 use Rattle.types.specs.Node.{below, tag, names, children}
 use Rattle.types.specs.Arena.{at}
 use Rattle.types.specs.declared.Counters.{Counters}
 use Rattle.types.proofs.Tests.{true_false, neither, not_true}
 use Rattle.types.proofs.Sound.{children_below}
 use Rattle.node_store.specs.Inner.Stored.{InRange}
-use Rattle.node_store.specs.declared.added.Interned.{Interned}
-use Rattle.node_store.specs.declared.added.Interned.TheVariants as interned
 use Rattle.walks.proofs.Reaching.{in_some}
 use Rattle.recursion.specs.Inner.Work.{Ready, Does, EachReady, DoesEach}
-use Rattle.recursion.specs.declared.Run.{Run}
-use Rattle.recursion.specs.declared.Run.TheVariants as run
 use Rattle.recursion.proofs.Leading.{each_done}
 use Rattle.recursion.proofs.Nodes.{Rebuilt, node_refused, node_done}
 use Rattle.recursion.proofs.Turns.{Turn, turn_given}
@@ -72,11 +71,11 @@ module _ {ks w s : List ℕ} {c : Counters} {tw ts : List ℕ} {d : Counters} {n
             import_at (by_map ks) (length tw) (length ts) Q.own u Q.holds.good n l (lacks_none (by_map ks) Q.own u Q.holds.good n l (K.is Q.own u Q.holds));
       }
 
-      module _ {tw' ts' items' entries' : List ℕ} {g : Run} (E : DoesEach (import_node (by_map ks)) (Foreign ks w s c) tw ts d n r.items r.count entries tw' ts' items' entries' g) where
-        pub import_refused : {x : ℕ} → g ≡ run.Refused x → Does (import_node (by_map ks)) (Foreign ks w s c) tw ts d n entries tw' ts' entries' (interned.Refused x)
+      module _ {tw' ts' items' entries' : List ℕ} {g : Out Counters} (E : DoesEach (import_node (by_map ks)) (Foreign ks w s c) tw ts d n r.items r.count entries tw' ts' items' entries' g) where
+        pub import_refused : {x : Refusal} → g ≡ Err x → Does (import_node (by_map ks)) (Foreign ks w s c) tw ts d n entries tw' ts' entries' (Err x)
         import_refused p = node_refused import_lawful import_rebuilt E p
 
-        module _ {e : Counters} (q : g ≡ run.Went e) where
+        module _ {e : Counters} (q : g ≡ Ok e) where
           pub import_ready : ImportReady ks w s c n items' r.count tw' ts' e
           import_ready =
               let H = P.beside.holds in
@@ -95,6 +94,6 @@ module _ {ks w s : List ℕ} {c : Counters} {tw ts : List ℕ} {d : Counters} {n
                 low = ap (λ (z : ℕ). below z (take r.count items')) D.holds.nodes ∙ D.low;
               }
 
-          pub import_done : {tw'' ts'' : List ℕ} {i : Interned} → Imports ks w s c n items' r.count tw' ts' e tw'' ts'' i
+          pub import_done : {tw'' ts'' : List ℕ} {i : Out (ℕ × Counters)} → Imports ks w s c n items' r.count tw' ts' e tw'' ts'' i
               → length tw' ≡ length tw → length ts' ≡ length ts → length tw'' ≡ length tw' → length ts'' ≡ length ts' → Does (import_node (by_map ks)) (Foreign ks w s c) tw ts d n entries tw'' ts'' entries' i
           import_done B lw ls lw' ls' = node_done import_lawful import_rebuilt E q (record { is = λ table u a H Q l. B.is table u a Q H }) lw ls lw' ls'

@@ -1,9 +1,9 @@
 -- The import of a type into another arena, whose names are those of another table (02, A4). No definition has a cache; `import_node` has.
-use Rattle.std.specs.Prelude.{ℕ, Bool, ◌||◌, get_or}
+use Rattle.std.specs.Prelude.{ℕ, Bool, ◌||◌, get_or, Err}
 use Rattle.std.proofs.Math.Bool.{true, false}
 use mathlib.Core.List.{List, [], ◌∷◌, map}
 use Rattle.std.proofs.Math.Option.{Option, none, some}
-use Rattle.types.specs.Out.{refuse}
+use Rattle.types.specs.declared.refusal.Refusal.TheVariants as refusal
 use Rattle.types.specs.Node.{Field, field, primitive, list, lambda, attrset, named, Tag, members, bound, var, neg, form, Node, tag}
 use Rattle.types.specs.Node.{children, names}
 use Rattle.types.specs.Arena.{Arena, rec, fold, absent}
@@ -56,14 +56,14 @@ module _ (f : ℕ → Option ℕ) where
     unfoldable pub import_step : Arena → Node → (ℕ → Job) → Job
     unfolding rebuild renamed lacks_one
     import_step s x g a =
-        elim (lacks_one (names (tag x))) [ true ↦ refuse 12 | false ↦ rebuild words starts (renamed (tag x)) (children x) g a ]
+        elim (lacks_one (names (tag x))) [ true ↦ Err refusal.NameAbsent | false ↦ rebuild words starts (renamed (tag x)) (children x) g a ]
 
     -- node n of the source is imported into the arena at work
     unfoldable pub import_node : Arena → ℕ → Job
     unfolding rec import_step
-    import_node = rec import_step (λ a. refuse 6)
+    import_node = rec import_step (λ a. Err refusal.NoSuchRoot)
 
     -- the same of a root, with 12 before any node is stored
     unfoldable pub import_from_arena : Arena → ℕ → Job
     unfolding lacks import_node
-    import_from_arena u root a = elim (lacks u root) [ true ↦ refuse 12 | false ↦ import_node u root a ]
+    import_from_arena u root a = elim (lacks u root) [ true ↦ Err refusal.NameAbsent | false ↦ import_node u root a ]

@@ -1,8 +1,10 @@
 -- Imports into small targets, and what each gives (02, A4).
-use Rattle.std.specs.Prelude.{ℕ, true, false, List, [], ◌∷◌, ◌++◌, map, reverse}
+use Rattle.std.specs.Prelude.{ℕ, true, false, List, [], ◌∷◌, ◌++◌, map, reverse, Ok, Err}
 use Prim.Native.String.{String}
+use Rattle.types.specs.declared.refusal.Refusal.TheVariants as refusal
+use Rattle.types.specs.declared.refusal.Refusal.{Refusal}
 use Rattle.types.specs.Bytes.{bytes}
-use Rattle.types.specs.Out.{Out, ok, refuse}
+use Rattle.types.specs.Out.{Out}
 use Rattle.types.specs.Node.{positive, negative, field, primitive, list, lambda, attrset, named, members, var, neg, form, Node, node}
 use Rattle.types.specs.Arena.{Arena}
 use Rattle.importing.specs.Import.{number_in, import_from_arena}
@@ -29,10 +31,10 @@ run i =
 
 -- the number that the root has in the target, and the nodes that were added behind those of the target
 abbrev becomes : Import → ℕ → List Node → Case
-becomes i m xs = record { gives = run i; says = ok (m, reverse (i.target ++ xs)) }
+becomes i m xs = record { gives = run i; says = Ok (m, reverse (i.target ++ xs)) }
 
-abbrev refused : Import → ℕ → Case
-refused i e = record { gives = run i; says = refuse e }
+abbrev refused : Import → Refusal → Case
+refused i e = record { gives = run i; says = Err e }
 
 -- ---- nodes
 abbrev int : Node
@@ -82,12 +84,12 @@ worked =
     -- what is there is found, also in a full target; else there is room for all of it, or 7
     ∷ becomes (within ("a" ∷ "b" ∷ []) 4 2 (int ∷ name 0 0 ∷ []) 1 (int ∷ name 1 0 ∷ [])) 1 []
     ∷ becomes (within ("b" ∷ []) 4 2 (int ∷ name 0 0 ∷ []) 1 []) 1 (int ∷ name 0 0 ∷ [])
-    ∷ refused (within ("b" ∷ []) 3 2 (int ∷ name 0 0 ∷ []) 1 []) 7
-    ∷ refused (within ("b" ∷ []) 4 1 (int ∷ name 0 0 ∷ []) 1 []) 7
+    ∷ refused (within ("b" ∷ []) 3 2 (int ∷ name 0 0 ∷ []) 1 []) refusal.NoRoom
+    ∷ refused (within ("b" ∷ []) 4 1 (int ∷ name 0 0 ∷ []) 1 []) refusal.NoRoom
     -- a name of the root, and one further down, that the target's table lacks; the same number is no help
-    ∷ refused (within ("a" ∷ "b" ∷ []) 64 16 (int ∷ name 1 0 ∷ []) 1 []) 12
-    ∷ refused (within ("a" ∷ "d" ∷ []) 64 16 (int ∷ name 0 0 ∷ node (form list) (1 ∷ []) ∷ name 1 2 ∷ []) 3 []) 12
+    ∷ refused (within ("a" ∷ "b" ∷ []) 64 16 (int ∷ name 1 0 ∷ []) 1 []) refusal.NameAbsent
+    ∷ refused (within ("a" ∷ "d" ∷ []) 64 16 (int ∷ name 0 0 ∷ node (form list) (1 ∷ []) ∷ name 1 2 ∷ []) 3 []) refusal.NameAbsent
     -- one that is lacking at a node that isn't reachable; and 12 comes before 7
     ∷ becomes (within ("a" ∷ "b" ∷ []) 64 16 (int ∷ name 1 0 ∷ name 0 0 ∷ []) 2 []) 1 (int ∷ name 1 0 ∷ [])
-    ∷ refused (within [] 0 0 (int ∷ name 0 0 ∷ []) 1 []) 12
+    ∷ refused (within [] 0 0 (int ∷ name 0 0 ∷ []) 1 []) refusal.NameAbsent
     ∷ []

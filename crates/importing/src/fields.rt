@@ -34,11 +34,8 @@ pub(crate) fn rename_fields(names: &[u32; 4096], count: usize, node: &mut [u32; 
     requires { Renaming names.now count node.old }
     ensures { Renames names.now count node.old node.new }
 {
-    let mut i = 0;
-    while i < count {
-        let at = i + 1;
-        node[at] = renamed_word(names, node[at]);
-        i = at;
+    for i in 0..count {
+        node[i + 1] = renamed_word(names, node[i + 1]);
     }
 }
 
@@ -47,14 +44,7 @@ fn lacks_one(names: &[u32; 4096], fields: &[u32]) -> bool
     requires { length names.now ≡ 4096 }
     ensures { result ≡ lacks_one (by_map names.now) (map field_name fields.now) }
 {
-    let mut i = 0;
-    while i < fields.len() {
-        if mapped(names, fields[i]) == 0 {
-            return true;
-        }
-        i += 1;
-    }
-    false
+    fields.iter().any(|word| mapped(names, *word) == 0)
 }
 
 // The same of the names that a node carries, given by its words.

@@ -43,12 +43,10 @@ pub fn lacks_name(
     ensures { Says (lacks (by_map names.now)) words.now starts.now c root result }
 {
     let met = reachable(words, starts, c, root);
-    let mut n = 0;
-    while n < c.nodes {
+    for n in 0..c.nodes {
         if lacks_met(words, starts, c, n, &met, names) {
             return true;
         }
-        n += 1;
     }
     false
 }

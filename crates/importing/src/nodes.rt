@@ -11,13 +11,12 @@ ghost use Rattle.importing.specs.Inner.Nodes.{Foreign, Complete, AllComplete, Im
 use crate::fields::rename_fields;
 use node_filter::{intern_filtered, intern_near};
 use node_order::field_count;
-use node_store::added::Interned;
 use node_store::stored::node_at;
 use rebuilding::children::all_children;
 use rebuilding::node::exchange;
-use recursion::{Run, cached, item_at, remember};
-use types::Counters;
+use recursion::{cached, item_at, remember};
 use types::arc_ty::{Head, wide};
+use types::{Counters, Refusal};
 
 // The number that is likely next, after node m was met: a type that was imported before has its nodes in the target in the order in
 // which they are met now. Nothing rests on it but how soon a node is found.
@@ -36,10 +35,8 @@ fn near_after(items: &[u32; 65], count: usize, near: u32) -> u32
     requires { count ≤ 65 }
 {
     let mut next = near;
-    let mut i = 0;
-    while i < count {
-        next = next_near(next, item_at(items, i));
-        i += 1;
+    for m in &items[..count] {
+        next = next_near(next, *m);
     }
     next
 }
@@ -52,7 +49,7 @@ fn intern_likely(
     node: &[u32],
     near: u32,
     filter: &mut [u64; 2048],
-) -> Interned
+) -> Result<(u32, Counters), Refusal>
     requires fresh { Fresh words.old starts.old c node.now }
     requires covers_lent { CoversLent words.old starts.old c filter.old }
     ensures interns { Interns words.old starts.old c node.now words.new
@@ -79,7 +76,7 @@ fn intern_imported(
     d: Counters,
     near: u32,
     filter: &mut [u64; 2048],
-) -> Interned
+) -> Result<(u32, Counters), Refusal>
     requires import_ready { ImportReady names.now words.now starts.now c n items.now count target_words.old target_starts.old d }
     requires complete { Complete names.now words.now starts.now c n }
     requires covers_lent { CoversLent target_words.old target_starts.old d filter.old }
@@ -114,7 +111,7 @@ pub fn import_node(
     cache: &mut [u32; 4096],
     filter: &mut [u64; 2048],
     near: u32,
-) -> Interned
+) -> Result<(u32, Counters), Refusal>
     requires ready { Ready (import_node (by_map names.now)) (Foreign names.now words.now starts.now c) target_words.old
         target_starts.old d n cache.old }
     requires complete { Complete names.now words.now starts.now c n }
@@ -126,7 +123,7 @@ pub fn import_node(
 {
     let hit = cached(cache, n);
     if hit != 0 {
-        return Interned::Node(hit - 1, d);
+        return Ok((hit - 1, d));
     }
     let r = import_uncached(
         words,
@@ -141,11 +138,11 @@ pub fn import_node(
         filter,
         near,
     );
-    let Interned::Node(m, e) = r else {
+    let Ok((m, e)) = r else {
         return r;
     };
     remember(cache, n, m);
-    Interned::Node(m, e)
+    Ok((m, e))
 }
 
 // The same, worked out.
@@ -162,7 +159,7 @@ fn import_uncached(
     cache: &mut [u32; 4096],
     filter: &mut [u64; 2048],
     near: u32,
-) -> Interned
+) -> Result<(u32, Counters), Refusal>
     requires ready { Ready (import_node (by_map names.now)) (Foreign names.now words.now starts.now c) target_words.old
         target_starts.old d n cache.old }
     requires complete { Complete names.now words.now starts.now c n }
@@ -174,7 +171,7 @@ fn import_uncached(
 {
     let mut list = all_children(words, starts, c, n);
     let count = list.count;
-    let r = import_each(
+    let e = import_each(
         words,
         starts,
         c,
@@ -188,10 +185,7 @@ fn import_uncached(
         cache,
         filter,
         near,
-    );
-    let Run::Went(e) = r else {
-        return Interned::Refused(r.refusal());
-    };
+    )?;
     intern_imported(
         words,
         starts,
@@ -224,7 +218,7 @@ fn import_each(
     cache: &mut [u32; 4096],
     filter: &mut [u64; 2048],
     near: u32,
-) -> Run
+) -> Result<Counters, Refusal>
     requires each_ready { EachReady (import_node (by_map names.now)) (Foreign names.now words.now starts.now c) target_words.old
         target_starts.old d n items.old count cache.old }
     requires all_complete { AllComplete names.now words.now starts.now c items.old count }
@@ -236,10 +230,9 @@ fn import_each(
 {
     let mut last = d;
     let mut next = near;
-    let mut i = 0;
-    while i < count {
+    for i in 0..count {
         let item = item_at(items, i);
-        let r = import_node(
+        let (m, e) = import_node(
             words,
             starts,
             c,
@@ -251,14 +244,10 @@ fn import_each(
             cache,
             filter,
             next,
-        );
-        let Interned::Node(m, e) = r else {
-            return Run::Refused(r.refusal());
-        };
+        )?;
         items[i] = m;
         next = next_near(next, m);
         last = e;
-        i += 1;
     }
-    Run::Went(last)
+    Ok(last)
 }

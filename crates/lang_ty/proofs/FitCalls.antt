@@ -6,7 +6,9 @@ use mathlib.Core.List.{List}
 use mathlib.Core.Option.{Option, none, some}
 use native.Mathlib.Omega.{arith}
 use lib.ListN.{length}
-use Rattle.types.specs.Out.{Out, ok, refuse, required}
+use Rattle.std.specs.Prelude.{Ok, Err}
+use Rattle.types.specs.declared.refusal.Refusal.TheVariants as refusal
+use Rattle.types.specs.Out.{Out, required}
 use Rattle.types.specs.declared.Counters.{Counters}
 use Rattle.names.specs.Table.{Name}
 use Rattle.soundness.specs.Inner.Sides.{Side}
@@ -33,7 +35,7 @@ module _ {t w s : List ℕ} {c : Counters} {m : ℕ} {u v r : List ℕ} {d : Cou
       let T = O.right in
       let D = (fix_decode (length S.names) ws F.left F.left_is).is_fix in
       let E = (fix_decode (length T.names) xs F.right F.right_is).is_fix in
-      sym (ap₂ (λ (x y : Bool). elim x as (λ _. Out Bool) [ true ↦ refuse 14 | false ↦ ok y ])
+      sym (ap₂ (λ (x y : Bool). elim x as (λ _. Out Bool) [ true ↦ Err refusal.HasVariable | false ↦ Ok y ])
       (vars_by_trees S.names T.names S.view T.view S.holds.good T.holds.good m n O.left_inside O.right_inside O.same)
       (fits_by_trees t u S.names T.names S.is T.is S.view T.view S.holds.good T.holds.good m n O.left_inside O.right_inside F.left F.right D.good_so E.good_so
       (length F.left - 1) (length F.right - 1) (omega (arith, D.some_value)) (omega (arith, E.some_value)) O.same F.same))

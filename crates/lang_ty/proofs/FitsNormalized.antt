@@ -6,7 +6,9 @@ use mathlib.Core.Bool.{Bool, true, false, not, ◌&&◌, ◌||◌, or-false, not
 use mathlib.Core.List.{List, [], ◌∷◌, ◌++◌, Memᴰ as Mem}
 use lib.ListN.{length}
 use lib.Dec.{eqb}
-use Rattle.types.specs.Out.{Out, ok, refuse, required, ◌>>=◌}
+use Rattle.std.specs.Prelude.{Ok, Err}
+use Rattle.types.specs.declared.refusal.Refusal.TheVariants as refusal
+use Rattle.types.specs.Out.{Out, required, ◌>>=◌}
 use Rattle.types.specs.Kind.{disc}
 use Rattle.types.specs.Node.{Polarity, positive, negative, Tag, members, Node, node, tag, kind, children}
 use Rattle.types.specs.Arena.{Arena, at, here}
@@ -23,7 +25,7 @@ use Rattle.walks.specs.Reach.{some_of}
 use Rattle.questions.specs.Vars.{kind_has, has_var, has_type_vars}
 use Rattle.recursion.specs.Jobs.{Job}
 use Rattle.recursion.specs.Hosted.{work_reply}
-use Rattle.recursion.proofs.Answers.{ok_same, ok_refuse, bind_parts}
+use Rattle.recursion.proofs.Answers.{ok_same, ok_err, bind_parts}
 use Rattle.simplification.specs.Pass.{one_of, first_copies, list_kind}
 use Rattle.simplification.proofs.Answers.{one_true, one_if, one_append}
 use Rattle.copying.proofs.Rooms.{Roomy, Keeps, done_roomy, rebuild_keeps}
@@ -118,18 +120,18 @@ module _ (words starts table : ℕ) (a : Arena) (root m : ℕ) (b : Arena) (N : 
 
   same_type : (f : Fix) → fits_type b m f ≡ fits_type a root f
   unfolding fits_type fits
-  same_type f = ap₂ (λ (x y : Bool). elim x as (λ _. Out Bool) [ true ↦ refuse 14 | false ↦ ok y ]) same_variables (ap (λ (t : Test). t (length f - 1)) (same_values f))
+  same_type f = ap₂ (λ (x y : Bool). elim x as (λ _. Out Bool) [ true ↦ Err refusal.HasVariable | false ↦ Ok y ]) same_variables (ap (λ (t : Test). t (length f - 1)) (same_values f))
 
   same_root : m < length b → (names : ℕ) (ws : List ℕ) → fits_root names m ws b ≡ fits_root names root ws a
   unfolding fits_root
   same_root l names ws =
-      rooted_yes m (λ (x : Arena). required 13 (fix_of names ws) (fits_type x m)) b l
-      ∙ (λ i. required 13 (fix_of names ws) (λ (f : Fix). same_type f i))
-      ∙ sym (rooted_yes root (λ (x : Arena). required 13 (fix_of names ws) (fits_type x root)) a N.inside)
+      rooted_yes m (λ (x : Arena). required refusal.MalformedFix (fix_of names ws) (fits_type x m)) b l
+      ∙ (λ i. required refusal.MalformedFix (fix_of names ws) (λ (f : Fix). same_type f i))
+      ∙ sym (rooted_yes root (λ (x : Arena). required refusal.MalformedFix (fix_of names ws) (fits_type x root)) a N.inside)
 
 -- ---- a finished run leaves room where there was
 module _ (words starts : ℕ) where
-  flatten_keeps : (k : Polarity) (f : ℕ → Job) → ((n : ℕ) → Keeps words starts (f n)) → (acc cs : List ℕ) (a : Arena) (l : List ℕ) (b : Arena) → Roomy words starts a → flatten_set_op k f acc cs a ≡ ok (l, b) → Roomy words starts b
+  flatten_keeps : (k : Polarity) (f : ℕ → Job) → ((n : ℕ) → Keeps words starts (f n)) → (acc cs : List ℕ) (a : Arena) (l : List ℕ) (b : Arena) → Roomy words starts a → flatten_set_op k f acc cs a ≡ Ok (l, b) → Roomy words starts b
   unfolding flatten_set_op
   flatten_keeps k f h acc [] a l b r e = subst (λ (v : List ℕ × Arena). Roomy words starts v.1) (ok_same e) r
   flatten_keeps k f h acc (c ∷ cs) a l b r e =
@@ -140,13 +142,13 @@ module _ (words starts : ℕ) where
   stand_for_keeps : (k : Polarity) (ms : List ℕ) → Keeps words starts (stand_for words starts k ms)
   unfolding stand_for
   stand_for_keeps k ms a m b r =
-      by_test (λ (o : Out (ℕ × Arena)). o ≡ ok (m, b) → Roomy words starts b) (eqb (length ms) 1) (λ e. subst (λ (v : ℕ × Arena). Roomy words starts v.1) (ok_same e) r)
+      by_test (λ (o : Out (ℕ × Arena)). o ≡ Ok (m, b) → Roomy words starts b) (eqb (length ms) 1) (λ e. subst (λ (v : ℕ × Arena). Roomy words starts v.1) (ok_same e) r)
       (λ e. done_roomy r (done words starts (node (members k) ms) a m b e))
 
   step_keeps : (s : Arena) (x : Node) (f : ℕ → Job) → ((n : ℕ) → Keeps words starts (f n)) → Keeps words starts (set_ops_step words starts s x f)
   unfolding set_ops_step
   step_keeps s x f h a m b r =
-      by_option (λ (o : Out (ℕ × Arena)). o ≡ ok (m, b) → Roomy words starts b) (list_kind (tag x))
+      by_option (λ (o : Out (ℕ × Arena)). o ≡ Ok (m, b) → Roomy words starts b) (list_kind (tag x))
       (λ k e.
       let p = bind_parts (flatten_set_op k f [] (children x) a) (λ (q : List ℕ × Arena). stand_for words starts k (sort q.1 q.0) q.1) e in
       stand_for_keeps k (sort p.0.1 p.0.0) p.0.1 m b (flatten_keeps k f h [] (children x) a p.0.0 p.0.1 r p.1) p.2)
@@ -154,7 +156,7 @@ module _ (words starts : ℕ) where
 
   set_ops_keeps : (root : ℕ) → Keeps words starts (normalize_set_ops words starts root)
   unfolding normalize_set_ops normalize
-  set_ops_keeps root a = rec_all (Keeps words starts) (λ a m b r e. absurd (ok_refuse e)) step_keeps a root a
+  set_ops_keeps root a = rec_all (Keeps words starts) (λ a m b r e. absurd (ok_err e)) step_keeps a root a
 
 -- ---- over the two calls
 module _ (t w s : List ℕ) (c : Counters) (root m : ℕ) (d : Counters) (w' s' : List ℕ) (ws : List ℕ) where
@@ -162,7 +164,7 @@ module _ (t w s : List ℕ) (c : Counters) (root m : ℕ) (d : Counters) (w' s' 
   run = normalize_set_ops (length w) (length s) root
 
   abbrev Answered : Out (ℕ × Arena) → Type 0
-  Answered o = reply_of w s c o ≡ reply (ok m) d w' s' → fits_reply t w' s' d m ws ≡ fits_reply t w s c root ws
+  Answered o = reply_of w s c o ≡ reply (Ok m) d w' s' → fits_reply t w' s' d m ws ≡ fits_reply t w s c root ws
 
   answered : (S : Side t w s c) → root < length S.view → Answered (run S.view)
   unfolding fits_reply normalize_set_ops
@@ -176,7 +178,7 @@ module _ (t w s : List ℕ) (c : Counters) (root m : ℕ) (d : Counters) (w' s' 
       ∙ same_root (length w) (length s) (length S.names) S.view root m L.target (record { few = H.few_starts; good = H.good; inside = l; run = L.run }) F.inside (length S.names) ws
       ∙ side_to S (λ (ns : List Name). fits_root (length ns) root ws)
 
-  same_answer : work_reply normalize_set_ops t w s c root ≡ reply (ok m) d w' s' → fits_reply t w' s' d m ws ≡ fits_reply t w s c root ws
+  same_answer : work_reply normalize_set_ops t w s c root ≡ reply (Ok m) d w' s' → fits_reply t w' s' d m ws ≡ fits_reply t w s c root ws
   unfolding work_reply lent_to reply_of
   same_answer = lent_cases Answered t w s c (λ (ns : List Name). rooted root run) (λ e. absurd (reply_not e)) (λ e. absurd (reply_not e)) (λ S. rooted_cases Answered root run S.view (λ e. absurd (reply_not e)) (answered S))
 

@@ -9,7 +9,7 @@ use mathlib.Core.Option.{Option, none, some}
 use native.Mathlib.Omega.{arith}
 use lib.ListN.{length, get_or, length-map}
 use borrow.Author.Tests.{lt-ltb}
-use Rattle.types.specs.Out.{ok}
+use Rattle.std.specs.Prelude.{Ok}
 use Rattle.types.specs.Kind.{disc}
 use Rattle.types.specs.Node.{Field, field, Tag, Node, node, tag, children, kind, data_of, field_names, names, below, well}
 use Rattle.types.specs.Arena.{Arena, at, find, absent, sound, Ext, here}
@@ -121,7 +121,7 @@ module _ (t : List ℕ) (ns : List Name) (p : names_of t ≡ some ns) (tt : List
       pub room : has_room words starts a ≡ true → has_room words starts b ≡ true
 
     abbrev pub Runs : ℕ → Type 0
-    Runs c = (a : Arena) (m : ℕ) (b : Arena) → sound (length ms) a ≡ true → import_node number words starts u c a ≡ ok (m, b) → Ran c a m b
+    Runs c = (a : Arena) (m : ℕ) (b : Arena) → sound (length ms) a ≡ true → import_node number words starts u c a ≡ Ok (m, b) → Ran c a m b
 
     ran_none : {a : Arena} → sound (length ms) a ≡ true → RanAll [] a [] a
     unfolding below
@@ -138,7 +138,7 @@ module _ (t : List ℕ) (ns : List Name) (p : names_of t ≡ some ns) (tt : List
       room = λ r. S.room (R.room r);
     }
 
-    each_ran : (cs : List ℕ) → ((c : ℕ) → Mem c cs → Runs c) → (a : Arena) (ks : List ℕ) (b : Arena) → sound (length ms) a ≡ true → each (import_node number words starts u) cs a ≡ ok (ks, b) → RanAll cs a ks b
+    each_ran : (cs : List ℕ) → ((c : ℕ) → Mem c cs → Runs c) → (a : Arena) (ks : List ℕ) (b : Arena) → sound (length ms) a ≡ true → each (import_node number words starts u) cs a ≡ Ok (ks, b) → RanAll cs a ks b
     unfolding each
     each_ran [] h a ks b s e = subst (λ (v : List ℕ × Arena). RanAll [] a v.0 v.1) (ok_same e) (ran_none s)
     each_ran (c ∷ cs) h a ks b s e =
@@ -150,7 +150,7 @@ module _ (t : List ℕ) (ns : List Name) (p : names_of t ≡ some ns) (tt : List
 
     -- the node, once its children are imported
     made : starts ≤ 4096 → (n : ℕ) → n < length u → lacks_one number (names (tag (at u n))) ≡ false → {a d : Arena} {ks : List ℕ} → RanAll (children (at u n)) a ks d → (m : ℕ) (b : Arena)
-        → intern words starts (node (renamed number (tag (at u n))) ks) d ≡ ok (m, b) → Ran n a m b
+        → intern words starts (node (renamed number (tag (at u n))) ks) d ≡ Ok (m, b) → Ran n a m b
     made few n l e {a} {d} {ks} S m b i = record { ext = ext_trans S.ext J.ext; good = J.good; inside = J.is.inside; same = same; room = λ r. done_roomy (S.room r) (done words starts x d m b i) }
       where
         x : Node
@@ -201,10 +201,10 @@ module _ (t : List ℕ) (ns : List Name) (p : names_of t ≡ some ns) (tt : List
               absurd (omega (arith, i, l))
 
       abbrev pub IsThere : ℕ → ℕ → Type 0
-      IsThere n k = (lacks number u n ≡ false) × (import_node number words starts u n b ≡ ok (k, b))
+      IsThere n k = (lacks number u n ≡ false) × (import_node number words starts u n b ≡ Ok (k, b))
 
       each_there : (cs ds : List ℕ) → below (length b) ds ≡ true → map (tree ns u) cs ≡ map (tree ms b) ds → ((c : ℕ) → Mem c cs → (k : ℕ) → k < length b → tree ns u c ≡ tree ms b k → IsThere c k)
-          → (some_of (map (lacks number u) cs) ≡ false) × (each (import_node number words starts u) cs b ≡ ok (ds, b))
+          → (some_of (map (lacks number u) cs) ≡ false) × (each (import_node number words starts u) cs b ≡ Ok (ds, b))
       unfolding some_of each
       each_there [] [] w e h = (refl, refl)
       each_there [] (d ∷ ds) w e h = let z : ◌≡◌ {A = ℕ} 0 1 = cc in absurd (omega arith)

@@ -8,7 +8,11 @@ use native.Mathlib.Omega.{arith}
 use lib.ListN.{length, take, replicate, length-append}
 use lib.Seq.{take_at}
 use borrow.Author.Tests.{le-leb}
-use Rattle.types.specs.Out.{Out, ok, refuse}
+use Rattle.std.specs.Prelude.{Ok, Err}
+use Rattle.types.specs.declared.refusal.Refusal.{Refusal}
+use Rattle.types.specs.declared.refusal.Refusal.TheVariants as refusals
+use Rattle.types.specs.Refusal.{number_of}
+use Rattle.types.specs.Out.{Out}
 use Rattle.types.specs.Arena.{Arena}
 use Rattle.types.specs.Memory.{flat, padded, Holds}
 use Rattle.types.specs.Reply.{Reply, reply, reply_of, rooted}
@@ -22,7 +26,7 @@ use Rattle.node_store.specs.Intern.{has_room}
 use Rattle.soundness.specs.Lent.{lent_to}
 use Rattle.soundness.specs.Inner.Sides.{Side}
 use Rattle.soundness.proofs.Sides.{side_to}
-use Rattle.recursion.proofs.Answers.{ok_refuse}
+use Rattle.recursion.proofs.Answers.{ok_err}
 use Rattle.equal.specs.Reply.{equal_reply}
 use Rattle.importing.specs.Import.{number_in, lacks, import_node, import_from_arena}
 use Rattle.importing.proofs.Lacks.{lacks_exactly}
@@ -66,18 +70,18 @@ module _ (t w s : List ℕ) (c : Counters) (root : ℕ) (tt tw ts : List ℕ) (d
       ∙ sym (side_to T (λ (ms : List Name) (b : Arena). rooted root (run S.names ms b) S.view))
       ∙ rooted_yes root (run S.names T.names T.view) S.view l)
 
-  import_cases : (P : Reply ℕ → Type 0) → ((e : ℕ) → 0 < e → e ≤ 10 → P (reply (refuse e) d tw ts)) → ((S : Side t w s c) (T : Side tt tw ts d) → root < length S.view → P (reply_of tw ts d (asked S T))) → P (import_reply t w s c root tt tw ts d)
+  import_cases : (P : Reply ℕ → Type 0) → ((e : Refusal) → 0 < number_of e → number_of e ≤ 10 → P (reply (Err e) d tw ts)) → ((S : Side t w s c) (T : Side tt tw ts d) → root < length S.view → P (reply_of tw ts d (asked S T))) → P (import_reply t w s c root tt tw ts d)
   unfolding import_reply reply_of asked
   import_cases P refused answered =
-      lent_cases (λ (o : Out (ℕ × Arena)). P (reply_of tw ts d o)) t w s c _ (refused 1 (omega arith) (omega arith)) (refused 2 (omega arith) (omega arith)) (λ S.
-      lent_cases (λ (o : Out (ℕ × Arena)). P (reply_of tw ts d o)) tt tw ts d _ (refused 1 (omega arith) (omega arith)) (refused 2 (omega arith) (omega arith)) (λ T.
-      rooted_cases (λ (o : Out (ℕ × Arena)). P (reply_of tw ts d o)) root (run S.names T.names T.view) S.view (refused 6 (omega arith) (omega arith)) (λ l. answered S T l)))
+      lent_cases (λ (o : Out (ℕ × Arena)). P (reply_of tw ts d o)) t w s c _ (refused refusals.BadTable (omega arith) (omega arith)) (refused refusals.UnsoundArena (omega arith) (omega arith)) (λ S.
+      lent_cases (λ (o : Out (ℕ × Arena)). P (reply_of tw ts d o)) tt tw ts d _ (refused refusals.BadTable (omega arith) (omega arith)) (refused refusals.UnsoundArena (omega arith) (omega arith)) (λ T.
+      rooted_cases (λ (o : Out (ℕ × Arena)). P (reply_of tw ts d o)) root (run S.names T.names T.view) S.view (refused refusals.NoSuchRoot (omega arith) (omega arith)) (λ l. answered S T l)))
 
   module _ (S : Side t w s c) (T : Side tt tw ts d) where
     abbrev lacking : Bool
     lacking = lacks (number_in S.names T.names) S.view root
 
-    asked_lacking : lacking ≡ true → asked S T ≡ refuse 12
+    asked_lacking : lacking ≡ true → asked S T ≡ Err refusals.NameAbsent
     unfolding asked import_from_arena
     asked_lacking e = rw (import_from_arena, e)
 
@@ -106,17 +110,17 @@ module _ (t w s : List ℕ) (c : Counters) (root : ℕ) (tt tw ts : List ℕ) (d
     pub ran : Ran t from.names from.is tt into.names into.is (length tw) (length ts) from.view from.holds.good root into.view m after
     pub holds : Holds (length into.names) tw' ts' d' after
 
-  ended : {m : ℕ} {d' : Counters} {tw' ts' : List ℕ} → import_reply t w s c root tt tw ts d ≡ reply (ok m) d' tw' ts' → Ended m d' tw' ts'
-  ended {m} {d'} {tw'} {ts'} = import_cases (λ (y : Reply ℕ). y ≡ reply (ok m) d' tw' ts' → Ended m d' tw' ts') (λ n i k e. absurd (reply_not e)) (λ S T l e. go S T l (left_so tw ts d (asked S T) e) (lacking S T) refl)
+  ended : {m : ℕ} {d' : Counters} {tw' ts' : List ℕ} → import_reply t w s c root tt tw ts d ≡ reply (Ok m) d' tw' ts' → Ended m d' tw' ts'
+  ended {m} {d'} {tw'} {ts'} = import_cases (λ (y : Reply ℕ). y ≡ reply (Ok m) d' tw' ts' → Ended m d' tw' ts') (λ n i k e. absurd (reply_not e)) (λ S T l e. go S T l (left_so tw ts d (asked S T) e) (lacking S T) refl)
     where
       go : (S : Side t w s c) (T : Side tt tw ts d) → root < length S.view → Left (length tw) (length ts) (asked S T) m d' tw' ts' → (b : Bool) → lacking S T ≡ b → Ended m d' tw' ts'
-      go S T l L true e = absurd (ok_refuse (sym (asked_lacking S T e) ∙ L.run))
+      go S T l L true e = absurd (ok_err (sym (asked_lacking S T e) ∙ L.run))
       go S T l L false e =
           let R = runs t S.names S.is tt T.names T.is (length tw) (length ts) S.view S.holds.good T.holds.few_starts (suc root) root (omega arith) l e T.view m L.target T.holds.good (sym (asked_complete S T e) ∙ L.run) in
           record { from = S; into = T; inside = l; after = L.target; ran = R; holds = left_held L T.holds.few_words T.holds.few_starts (R.room (roomy T.holds)) R.good }
 
-  module _ (m : ℕ) (d' : Counters) (tw' ts' : List ℕ) (e : import_reply t w s c root tt tw ts d ≡ reply (ok m) d' tw' ts') where
-    equal_so : equal_reply t w s c root tt tw' ts' d' m ≡ ok true
+  module _ (m : ℕ) (d' : Counters) (tw' ts' : List ℕ) (e : import_reply t w s c root tt tw ts d ≡ reply (Ok m) d' tw' ts') where
+    equal_so : equal_reply t w s c root tt tw' ts' d' m ≡ Ok true
     equal_so =
         let E = ended e in
         told_equal E.from (record { names = E.into.names; is = E.into.is; view = E.after; holds = E.holds }) root m E.inside E.ran.inside (sym E.ran.same)
@@ -144,9 +148,9 @@ module _ (t w s : List ℕ) (c : Counters) (root : ℕ) (tt tw ts : List ℕ) (d
 
   -- ---- a type that is there
   abbrev Found : ℕ → Type 0
-  Found k = import_reply t w s c root tt tw ts d ≡ reply (ok k) d tw ts
+  Found k = import_reply t w s c root tt tw ts d ≡ reply (Ok k) d tw ts
 
-  there_so : (k : ℕ) → equal_reply t w s c root tt tw ts d k ≡ ok true → Found k
+  there_so : (k : ℕ) → equal_reply t w s c root tt tw ts d k ≡ Ok true → Found k
   unfolding reply_of
   there_so k e =
       let O = one_tree t w s c root tt tw ts d k e in
@@ -157,7 +161,7 @@ module _ (t w s : List ℕ) (c : Counters) (root : ℕ) (tt tw ts : List ℕ) (d
       let few : length T.view ≤ 4096 = omega (arith, start_room H, H.nodes, H.few_starts) in
       let I = is_there t S.names S.is tt T.names T.is (length tw) (length ts) S.view S.holds.good T.view H.good few (suc root) root (omega arith) l k O.right_inside O.same in
       import_is S T l ∙ ap (reply_of tw ts d) (asked_complete S T I.0 ∙ I.1)
-      ∙ (λ z. reply (ok k) (record { nodes = sym H.nodes z; words = sym H.total z }) (sym H.words z) (sym H.starts z))
+      ∙ (λ z. reply (Ok k) (record { nodes = sym H.nodes z; words = sym H.total z }) (sym H.words z) (sym H.starts z))
 
   -- ---- 12 exactly
   module _ (S : Side t w s c) (T : Side tt tw ts d) (l : root < length S.view) where
@@ -171,14 +175,14 @@ module _ (t w s : List ℕ) (c : Counters) (root : ℕ) (tt tw ts : List ℕ) (d
           (record { node = N.node; reachable = N.reachable; name = N.name; carried = N.carried; lacked = (numbers_by_text S.names tt T.names T.is N.name).no_number.1 (λ p I. N.lacked p I.there I.text) })),
     )
 
-    twelve_so : (import_reply t w s c root tt tw ts d ≡ reply (refuse 12) d tw ts) ↔ NameLacking S.names T.names S.view root
+    twelve_so : (import_reply t w s c root tt tw ts d ≡ reply (Err refusals.NameAbsent) d tw ts) ↔ NameLacking S.names T.names S.view root
     unfolding reply_of
     twelve_so = (
       (λ e. exactly.0 (go (sym (import_is S T l) ∙ e) (lacking S T) refl)),
       (λ N. import_is S T l ∙ ap (reply_of tw ts d) (asked_lacking S T (exactly.1 N))),
     )
       where
-        go : reply_of tw ts d (asked S T) ≡ reply (refuse 12) d tw ts → (b : Bool) → lacking S T ≡ b → b ≡ true
+        go : reply_of tw ts d (asked S T) ≡ reply (Err refusals.NameAbsent) d tw ts → (b : Bool) → lacking S T ≡ b → b ≡ true
         go e true q = refl
         go e false q =
             let M = refusal_low (subst (λ (y : Reply ℕ). Numbered (answer_of y)) e (reply_numbered tw ts d (asked_numbered S T l q))) in

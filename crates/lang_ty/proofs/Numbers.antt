@@ -9,7 +9,10 @@ use mathlib.Core.List.{List, [], ◌∷◌, Memᴰ as Mem}
 use mathlib.Core.Option.{Option, none, some}
 use lib.ListN.{length}
 use lib.Dec.{eqb, ltb}
-use Rattle.types.specs.Out.{Out, refuse, required, ◌>>=◌}
+use Rattle.std.specs.Prelude.{Err}
+use Rattle.types.specs.declared.refusal.Refusal.{Refusal}
+use Rattle.types.specs.Refusal.{number_of}
+use Rattle.types.specs.Out.{Out, required, ◌>>=◌}
 use Rattle.types.specs.Node.{Tag, Node, node}
 use Rattle.types.specs.Arena.{Arena, rec, find}
 use Rattle.types.specs.Reply.{reply_of, rooted}
@@ -18,10 +21,10 @@ use Rattle.node_store.specs.Intern.{has_room, intern}
 use Rattle.recursion.specs.Jobs.{Job, each, rebuild}
 use Rattle.lang_ty.specs.Numbered.{Numbered, value, refusal, answer_of}
 
-pub refusal_high : {A : Type 0} {e : ℕ} → Numbered {A = A} (refuse e) → 0 < e
+pub refusal_high : {A : Type 0} {e : Refusal} → Numbered {A = A} (Err e) → 0 < number_of e
 refusal_high (refusal l m) = l
 
-pub refusal_low : {A : Type 0} {e : ℕ} → Numbered {A = A} (refuse e) → e ≤ 10
+pub refusal_low : {A : Type 0} {e : Refusal} → Numbered {A = A} (Err e) → number_of e ≤ 10
 refusal_low (refusal l m) = m
 
 -- whatever a test picks, if both have the property
@@ -33,14 +36,14 @@ pub by_option : {N Y : Type 0} (P : Y → Type 0) (o : Option N) {f : N → Y} {
 by_option P (some n) p q = p n
 by_option P none p q = q
 
-pub by_required : {A N : Type 0} (P : Out A → Type 0) (e : ℕ) (o : Option N) {f : N → Out A} → P (refuse e) → ((n : N) → P (f n)) → P (required e o f)
+pub by_required : {A N : Type 0} (P : Out A → Type 0) (e : Refusal) (o : Option N) {f : N → Out A} → P (Err e) → ((n : N) → P (f n)) → P (required e o f)
 unfolding required
 by_required P e none p h = p
 by_required P e (some n) p h = h n
 
 module _ {A : Type 0} where
-  pub required_numbered : {N : Type 0} {e : ℕ} → 0 < e → e ≤ 10 → (o : Option N) {f : N → Out A} → ((n : N) → Numbered (f n)) → Numbered (required e o f)
-  required_numbered {e = e} l m o h = by_required Numbered e o (refusal l m) h
+  pub required_numbered : {N : Type 0} (e : Refusal) → 0 < number_of e → number_of e ≤ 10 → (o : Option N) {f : N → Out A} → ((n : N) → Numbered (f n)) → Numbered (required e o f)
+  required_numbered e l m o h = by_required Numbered e o (refusal l m) h
 
   pub then_numbered : {B : Type 0} {o : Out A} {f : A → Out B} → Numbered o → ((x : A) → Numbered (f x)) → Numbered (o >>= f)
   unfolding ◌>>=◌

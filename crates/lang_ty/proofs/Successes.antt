@@ -2,12 +2,16 @@
 use Prim.Native.Nat.{ℕ, min, ◌<◌, ◌≤◌}
 use native.Mathlib.Omega.{arith}
 use mathlib.Core.Bool.{Bool}
-use mathlib.Core.Path.{◌≡◌, refl}
+use mathlib.Core.Path.{◌≡◌, refl, ap}
 use mathlib.Core.List.{List, []}
 use lib.ListN.{length}
 use lib.Dec.{ltb, leb}
 use Rattle.words.specs.declared.Layout.TheVariants as layout
-use Rattle.types.specs.Out.{Out, ok, refuse}
+use Rattle.std.specs.Prelude.{Ok, Err}
+use Rattle.types.specs.declared.refusal.Refusal.{Refusal}
+use Rattle.types.specs.declared.refusal.Refusal.TheVariants as refusals
+use Rattle.types.specs.Refusal.{number_of}
+use Rattle.types.specs.Out.{Out, number}
 use Rattle.types.specs.Node.{tag, names, guess, is_words, linked, rising, decode, decode_in}
 use Rattle.types.specs.Arena.{Arena, at}
 use Rattle.types.specs.Memory.{arena_of}
@@ -35,7 +39,7 @@ use Rattle.sheet_reading.specs.Sheet.{Sheet, read_sheet_in}
 use Rattle.sheet_writing.specs.Bytes.{sheet_bytes}
 use Rattle.sheet_writing.specs.Reply.{bytes_with, fitting, write_sheet_reply, reply_of as sheet-of}
 use Rattle.sheet_converting.specs.Convert.{converting, convert_reply}
-use Rattle.recursion.proofs.Answers.{ok_refuse}
+use Rattle.recursion.proofs.Answers.{ok_err}
 use Rattle.recursion.specs.Hosted.{Work, work_reply}
 use Rattle.renumber.specs.Renumber.{normalize}
 use Rattle.set_op_lists.specs.SetOps.{normalize_set_ops}
@@ -55,20 +59,20 @@ use Rattle.lang_ty.proofs.Imports.{import_numbered}
 module _ {A : Type 0} (t w s : List ℕ) (c : Counters) {f : List Name → Arena → Out A} (h : (ns : List Name) (a : Arena) → Numbered (f ns a)) where
   lent_numbered : Numbered (tabled (names_of t) (λ (ns : List Name). judged (length ns) w s c (f ns)))
   unfolding tabled judged
-  lent_numbered = required_numbered (omega arith) (omega arith) (names_of t) (λ ns. required_numbered (omega arith) (omega arith) (arena_of (length ns) w s c) (h ns))
+  lent_numbered = required_numbered _ (omega arith) (omega arith) (names_of t) (λ ns. required_numbered _ (omega arith) (omega arith) (arena_of (length ns) w s c) (h ns))
 
 -- ---- calls that only read
 pub table_numbered : (t : List ℕ) → Numbered (table_reply t)
 unfolding table_reply
-table_numbered t = required_numbered (omega arith) (omega arith) (names_of t) (λ ns. value (length ns))
+table_numbered t = required_numbered _ (omega arith) (omega arith) (names_of t) (λ ns. value (length ns))
 
 name_numbered : (t : List ℕ) (number : ℕ) → Numbered (name_reply t number)
 unfolding name_reply
-name_numbered t number = required_numbered (omega arith) (omega arith) (names_of t) (λ ns. by_test Numbered (ltb number (length ns)) (value (stretch ns number)) (refusal (omega arith) (omega arith)))
+name_numbered t number = required_numbered _ (omega arith) (omega arith) (names_of t) (λ ns. by_test Numbered (ltb number (length ns)) (value (stretch ns number)) (refusal (omega arith) (omega arith)))
 
 find_numbered : (t x : List ℕ) → Numbered (find_reply t x)
 unfolding find_reply
-find_numbered t x = required_numbered (omega arith) (omega arith) (names_of t) (λ ns. value (position ns x))
+find_numbered t x = required_numbered _ (omega arith) (omega arith) (names_of t) (λ ns. value (position ns x))
 
 pub compare_numbered : (t w s : List ℕ) (c : Counters) (m n : ℕ) → Numbered (compare_reply t w s c m n)
 unfolding compare_reply comparing
@@ -116,8 +120,8 @@ write_sheet_numbered t w s c root b = sheet_of_numbered b (then_numbered (ask_nu
 
 converting_numbered : (b : List ℕ) (o : Out Sheet) → Converted (length_of (converting b o))
 unfolding converting
-converting_numbered b (ok sh) = done (length (sheet_bytes sh))
-converting_numbered b (refuse e) = eleven
+converting_numbered b (Ok sh) = done (length (sheet_bytes sh))
+converting_numbered b (Err e) = eleven
 
 convert_numbered : (b : List ℕ) → Converted (length_of (convert_reply b))
 unfolding convert_reply
@@ -162,13 +166,13 @@ compact_numbered t w s c root tw ts d = compacted_numbered root tw ts d (source_
 fits_numbered : (t w s : List ℕ) (c : Counters) (root : ℕ) (ws : List ℕ) → Fitted (fits_reply t w s c root ws)
 unfolding fits_reply lent_to tabled judged fits_root rooted fits_type
 fits_numbered t w s c root ws =
-    by_required Fitted 1 (names_of t) (low 1 (omega arith) (omega arith))
-    (λ ns. by_required Fitted 2 (arena_of (length ns) w s c) (low 2 (omega arith) (omega arith))
+    by_required Fitted refusals.BadTable (names_of t) (low refusals.BadTable (omega arith) (omega arith))
+    (λ ns. by_required Fitted refusals.UnsoundArena (arena_of (length ns) w s c) (low refusals.UnsoundArena (omega arith) (omega arith))
     (λ a. by_test Fitted (ltb root (length a))
-    (by_required Fitted 13 (fix_of (length ns) ws) thirteen (λ f. by_test Fitted (has_type_vars a root) fourteen (fitted.numbered (value (fits f a root)))))
-    (low 6 (omega arith) (omega arith))))
+    (by_required Fitted refusals.MalformedFix (fix_of (length ns) ws) thirteen (λ f. by_test Fitted (has_type_vars a root) fourteen (fitted.numbered (value (fits f a root)))))
+    (low refusals.NoSuchRoot (omega arith) (omega arith))))
   where
-    low : (e : ℕ) → 0 < e → e ≤ 10 → Fitted {A = Bool} (refuse e)
+    low : (e : Refusal) → 0 < number_of e → number_of e ≤ 10 → Fitted {A = Bool} (Err e)
     low e l m = fitted.numbered (refusal l m)
 
 -- ---- all of them
@@ -196,15 +200,15 @@ all_numbered = record {
 -- ---- what a host knows of the number that it is told
 module _ {A : Type 0} (old : A) where
   -- of an answer whose refusals have numbers from 1 to a highest
-  zero_is_value : (highest : ℕ) (o : Out A) → ((n : ℕ) → o ≡ refuse n → (0 < n) × (n ≤ highest)) → {r : ℕ} {x : A} → told r x ≡ tell old o → ZeroIsValue highest r x o
-  zero_is_value highest (ok y) h {r} e = let p : r ≡ 0 = cc in record { zero = λ q. cc; value = λ z q. cc; most = omega arith }
-  zero_is_value highest (refuse n) h {r} e =
-      let p : r ≡ n = cc in
+  zero_is_value : (highest : ℕ) (o : Out A) → ((n : Refusal) → o ≡ Err n → (0 < number_of n) × (number_of n ≤ highest)) → {r : ℕ} {x : A} → told r x ≡ tell old o → ZeroIsValue highest r x o
+  zero_is_value highest (Ok y) h {r} e = let p : r ≡ 0 = cc in record { zero = λ q. cc; value = λ z q. cc; most = omega arith }
+  zero_is_value highest (Err n) h {r} e =
+      let p : r ≡ number_of n = cc in
       let k = h n refl in
-      record { zero = λ q. absurd (omega (arith, p, q, k.0)); value = λ z q. absurd (ok_refuse q); most = omega (arith, p, k.1) }
+      record { zero = λ q. absurd (omega (arith, p, q, k.0)); value = λ z q. absurd (ok_err q); most = omega (arith, p, k.1) }
 
   pub told_zero : (o : Out A) {r : ℕ} {x : A} → ToldZero old o r x
-  told_zero o N = zero_is_value 10 o (λ n q. let M : Numbered (refuse n) = rw q at N in (refusal_high M, refusal_low M))
+  told_zero o N = zero_is_value 10 o (λ n q. let M : Numbered (Err n) = rw q at N in (refusal_high M, refusal_low M))
 
   pub arena_zero : (y : Reply A) {r : ℕ} {x : A} {d : Counters} {w s : List ℕ} → ArenaZero old y r x d w s
   arena_zero (reply o c v u) N e = told_zero o N (cc)
@@ -212,14 +216,14 @@ module _ {A : Type 0} (old : A) where
   pub import_zero : (y : Reply A) {r : ℕ} {x : A} {d : Counters} {w s : List ℕ} → ImportZero old y r x d w s
   import_zero (reply o c v u) I e = zero_is_value 12 o (imported I) (cc)
     where
-      imported : {o : Out A} → Imported o → (n : ℕ) → o ≡ refuse n → (0 < n) × (n ≤ 12)
-      imported (numbered N) n q = let M : Numbered (refuse n) = rw q at N in (refusal_high M, omega (arith, refusal_low M))
-      imported twelve n q = let p : 12 ≡ n = cc in (omega (arith, p), omega (arith, p))
+      imported : {o : Out A} → Imported o → (n : Refusal) → o ≡ Err n → (0 < number_of n) × (number_of n ≤ 12)
+      imported (numbered N) n q = let M : Numbered (Err n) = rw q at N in (refusal_high M, omega (arith, refusal_low M))
+      imported twelve n q = let p : 12 ≡ number_of n = ap number q in (omega (arith, p), omega (arith, p))
 
   pub fits_zero : (o : Out A) {r : ℕ} {x : A} → FitsZero old o r x
   fits_zero o F = zero_is_value 14 o (known F)
     where
-      known : {o : Out A} → Fitted o → (n : ℕ) → o ≡ refuse n → (0 < n) × (n ≤ 14)
-      known (fitted.numbered N) n q = let M : Numbered (refuse n) = rw q at N in (refusal_high M, omega (arith, refusal_low M))
-      known thirteen n q = let p : 13 ≡ n = cc in (omega (arith, p), omega (arith, p))
-      known fourteen n q = let p : 14 ≡ n = cc in (omega (arith, p), omega (arith, p))
+      known : {o : Out A} → Fitted o → (n : Refusal) → o ≡ Err n → (0 < number_of n) × (number_of n ≤ 14)
+      known (fitted.numbered N) n q = let M : Numbered (Err n) = rw q at N in (refusal_high M, omega (arith, refusal_low M))
+      known thirteen n q = let p : 13 ≡ number_of n = ap number q in (omega (arith, p), omega (arith, p))
+      known fourteen n q = let p : 14 ≡ number_of n = ap number q in (omega (arith, p), omega (arith, p))

@@ -1,4 +1,4 @@
--- The unfolded tree of a value of a fix, in which nothing is shared and names are texts (02, A5).
+-- The unfolded tree of a value of a fix, in which nothing is shared and names are texts.
 use Rattle.std.specs.Prelude.{ℕ, ◌-◌, true, false, List, [], ◌∷◌, map, length, get_or, eqb}
 use Rattle.names.specs.Table.{Name}
 use Rattle.equal.specs.Equal.{Spelling, spelling, Label, label, Tree, bare, over}

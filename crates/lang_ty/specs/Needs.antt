@@ -1,4 +1,4 @@
--- Whether `normalize_replacing_unknown` has something to do (01, "arena"; the Rust's `needs_var_normalization`).
+-- Whether `normalize_replacing_unknown` has something to do (the Rust's `needs_var_normalization`).
 use Rattle.std.specs.Prelude.{ℕ, Bool, true, false, ◌||◌, List, [], ◌∷◌}
 use Rattle.types.specs.Arena.{Arena, at}
 use Rattle.node_reading.specs.Nodes.{is_var}

@@ -1,8 +1,9 @@
 -- What is shown of these definitions beyond the contracts. A statement with parameters holds for all of them.
-use Rattle.std.specs.Prelude.{ℕ, ◌<◌, ◌≤◌, ◌≡◌, true, Bool, ◌↔◌, length, get_or, take}
+use Rattle.std.specs.Prelude.{ℕ, ◌<◌, ◌≤◌, ◌≡◌, true, Bool, ◌↔◌, length, get_or, take, Ok, Err}
 use mathlib.Core.List.{List, [], Memᴰ as Mem}
 use Rattle.std.proofs.Math.Option.{some}
-use Rattle.types.specs.Out.{Out, ok, refuse}
+use Rattle.types.specs.declared.refusal.Refusal.TheVariants as refusal
+use Rattle.types.specs.Out.{Out}
 use Rattle.types.specs.Node.{tag, names}
 use Rattle.types.specs.Reply.{Reply, reply}
 use Rattle.types.specs.declared.Counters.{Counters}
@@ -38,7 +39,7 @@ use Rattle.equal.specs.Equal.{tree}
 use Rattle.fix_values.specs.Fix.{Fix, good, fix_of}
 use Rattle.lang_ty.specs.FixTrees.{value_tree, fix_tree}
 
--- 0 is told exactly of a value, which then is the lent result (01, "Who can cause which number")
+-- 0 is told exactly of a value, which then is the lent result
 abbrev pub ToldZero : {A : Type 0} → A → Out A → ℕ → A → Type 0
 ToldZero old o r x = Numbered o → told r x ≡ tell old o → ZeroIsValue 10 r x o
 
@@ -46,29 +47,29 @@ ToldZero old o r x = Numbered o → told r x ≡ tell old o → ZeroIsValue 10 r
 abbrev pub ArenaZero : {A : Type 0} → A → Reply A → ℕ → A → Counters → List ℕ → List ℕ → Type 0
 ArenaZero old y r x d w s = Numbered (answer_of y) → told_arena r x d w s ≡ tell_arena old y → ZeroIsValue 10 r x (answer_of y)
 
--- the same of `import_from_arena`, which may be refused by 12 (02, A4)
+-- the same of `import_from_arena`, which may be refused by 12
 abbrev pub ImportZero : {A : Type 0} → A → Reply A → ℕ → A → Counters → List ℕ → List ℕ → Type 0
 ImportZero old y r x d w s = Imported (answer_of y) → told_arena r x d w s ≡ tell_arena old y → ZeroIsValue 12 r x (answer_of y)
 
--- the same of `fits`, which may be refused by 13 and 14 (02, A5)
+-- the same of `fits`, which may be refused by 13 and 14
 abbrev pub FitsZero : {A : Type 0} → A → Out A → ℕ → A → Type 0
 FitsZero old o r x = Fitted o → told r x ≡ tell old o → ZeroIsValue 14 r x o
 
 -- a type that `compact` has copied is structurally equal to what it was copied from: `structurally_eq` then answers yes, under the same
--- names (01, "arena")
+-- names
 abbrev pub CompactEqual : Type 0
 CompactEqual =
     (t w s : List ℕ) (c : Counters) (root : ℕ) (tw ts : List ℕ) (d : Counters) (m : ℕ) (d' : Counters) (tw' ts' : List ℕ)
-    → compact_reply t w s c root tw ts d ≡ reply (ok m) d' tw' ts' → equal_reply t w s c root t tw' ts' d' m ≡ ok true
+    → compact_reply t w s c root tw ts d ≡ reply (Ok m) d' tw' ts' → equal_reply t w s c root t tw' ts' d' m ≡ Ok true
 
 -- a type that `import_from_arena` has imported is structurally equal to what it was imported from: `structurally_eq` then answers yes,
--- under both tables, so that names agree by their texts (02, A4)
+-- under both tables, so that names agree by their texts
 abbrev pub ImportEqual : Type 0
 ImportEqual =
     (t w s : List ℕ) (c : Counters) (root : ℕ) (tt tw ts : List ℕ) (d : Counters) (m : ℕ) (d' : Counters) (tw' ts' : List ℕ)
-    → import_reply t w s c root tt tw ts d ≡ reply (ok m) d' tw' ts' → equal_reply t w s c root tt tw' ts' d' m ≡ ok true
+    → import_reply t w s c root tt tw ts d ≡ reply (Ok m) d' tw' ts' → equal_reply t w s c root tt tw' ts' d' m ≡ Ok true
 
--- each node that the target had keeps its number, its words and its start (02, A4)
+-- each node that the target had keeps its number, its words and its start
 pub record ImportKept (tt tw ts : List ℕ) (d d' : Counters) (tw' ts' : List ℕ) : Type 0 where
   pub words : take d.words tw' ≡ take d.words tw
   pub starts : take d.nodes ts' ≡ take d.nodes ts
@@ -85,19 +86,19 @@ pub record ImportKept (tt tw ts : List ℕ) (d d' : Counters) (tw' ts' : List �
 abbrev pub ImportKeeps : Type 0
 ImportKeeps =
     (t w s : List ℕ) (c : Counters) (root : ℕ) (tt tw ts : List ℕ) (d : Counters) (m : ℕ) (d' : Counters) (tw' ts' : List ℕ)
-    → import_reply t w s c root tt tw ts d ≡ reply (ok m) d' tw' ts' → ImportKept tt tw ts d d' tw' ts'
+    → import_reply t w s c root tt tw ts d ≡ reply (Ok m) d' tw' ts' → ImportKept tt tw ts d d' tw' ts'
 
--- where the target holds the type already, its number is answered and nothing is added, whatever room there is (02, A4)
+-- where the target holds the type already, its number is answered and nothing is added, whatever room there is
 abbrev pub ImportThere : Type 0
 ImportThere =
     (t w s : List ℕ) (c : Counters) (root : ℕ) (tt tw ts : List ℕ) (d : Counters) (k : ℕ)
-    → equal_reply t w s c root tt tw ts d k ≡ ok true → import_reply t w s c root tt tw ts d ≡ reply (ok k) d tw ts
+    → equal_reply t w s c root tt tw ts d k ≡ Ok true → import_reply t w s c root tt tw ts d ≡ reply (Ok k) d tw ts
 
--- so a second call answers the same and adds nothing (02, A4)
+-- so a second call answers the same and adds nothing
 abbrev pub ImportAgain : Type 0
 ImportAgain =
     (t w s : List ℕ) (c : Counters) (root : ℕ) (tt tw ts : List ℕ) (d : Counters) (m : ℕ) (d' : Counters) (tw' ts' : List ℕ)
-    → import_reply t w s c root tt tw ts d ≡ reply (ok m) d' tw' ts' → import_reply t w s c root tt tw' ts' d' ≡ reply (ok m) d' tw' ts'
+    → import_reply t w s c root tt tw ts d ≡ reply (Ok m) d' tw' ts' → import_reply t w s c root tt tw' ts' d' ≡ reply (Ok m) d' tw' ts'
 
 -- a node that is reachable from the root carries a name of whose text the target's table has none
 pub record NameLacking (ns ms : List Name) (u : Arena) (root : ℕ) : Type 0 where
@@ -107,14 +108,14 @@ pub record NameLacking (ns ms : List Name) (u : Arena) (root : ℕ) : Type 0 whe
   pub carried : Mem name (names (tag (at u node)))
   pub lacked : (p : ℕ) → p < length ms → get_or ms p [] ≡ get_or ns name [] → ⊥
 
--- exactly then the call is refused by 12, also where there is no room for a node (02, A4)
+-- exactly then the call is refused by 12, also where there is no room for a node
 abbrev pub TwelveExactly : Type 0
 TwelveExactly =
     (t w s : List ℕ) (c : Counters) (root : ℕ) (tt tw ts : List ℕ) (d : Counters) (ns ms : List Name) (u b : Arena)
     → names_of t ≡ some ns → Holds (length ns) w s c u → names_of tt ≡ some ms → Holds (length ms) tw ts d b → root < length u
-    → (import_reply t w s c root tt tw ts d ≡ reply (refuse 12) d tw ts) ↔ NameLacking ns ms u root
+    → (import_reply t w s c root tt tw ts d ≡ reply (Err refusal.NameAbsent) d tw ts) ↔ NameLacking ns ms u root
 
--- `needs_var_normalization` asks what `has_type_vars` asks, so that the contract of both is the same (01, "arena")
+-- `needs_var_normalization` asks what `has_type_vars` asks, so that the contract of both is the same
 pub record NeedsIsHas : Type 0 where
   pub is : (table : ℕ) (a : Arena) → sound table a ≡ true → (root : ℕ) → root < length a
       → needs_var_normalization a root ≡ has_type_vars a root
@@ -122,17 +123,17 @@ pub record NeedsIsHas : Type 0 where
       → ask_reply needs_var_normalization t w s c root ≡ ask_reply has_type_vars t w s c root
 
 -- `normalize_set_ops` changes neither which values of a fix fit the type nor whether it has a variable; so `fits` answers after it what it
--- would have answered before, refusals too (02, A5)
+-- would have answered before, refusals too
 pub record FitsNormalizes : Type 0 where
   pub values : (words starts table : ℕ) (a : Arena) (root m : ℕ) (b : Arena) → Normalizes words starts table a root m b → (f : Fix) (v : ℕ)
       → takes f b m v ≡ takes f a root v
   pub variables : (words starts table : ℕ) (a : Arena) (root m : ℕ) (b : Arena) → Normalizes words starts table a root m b
       → has_type_vars b m ≡ has_type_vars a root
   pub answer : (t w s : List ℕ) (c : Counters) (root m : ℕ) (d : Counters) (w' s' : List ℕ)
-      → work_reply normalize_set_ops t w s c root ≡ reply (ok m) d w' s' → (ws : List ℕ)
+      → work_reply normalize_set_ops t w s c root ≡ reply (Ok m) d w' s' → (ws : List ℕ)
       → fits_reply t w' s' d m ws ≡ fits_reply t w s c root ws
 
--- of a type all of whose names are plain `display` and `display_nix` answer and leave the same, in any lent memory (02, A1)
+-- of a type all of whose names are plain `display` and `display_nix` answer and leave the same, in any lent memory
 abbrev pub PlainPrintsAlike : Type 0
 PlainPrintsAlike =
     (t w s : List ℕ) (c : Counters) (root : ℕ) (b : List ℕ)
@@ -164,7 +165,7 @@ pub record AllNumbered : Type 1 where
       → Imported (answer_of (import_reply t w s c root tt tw ts d))
   pub fits : (t w s : List ℕ) (c : Counters) (root : ℕ) (ws : List ℕ) → Fitted (fits_reply t w s c root ws)
 
--- ---- fixes and trees (02, A5)
+-- ---- fixes and trees
 -- whether a value fits a type depends on the tree of the type and that of the value alone, in which names are texts
 abbrev pub FitsByTrees : Type 0
 FitsByTrees =
@@ -183,7 +184,7 @@ VarsByTrees =
 abbrev pub FitsCompact : Type 0
 FitsCompact =
     (t w s : List ℕ) (c : Counters) (root : ℕ) (tw ts : List ℕ) (d : Counters) (m : ℕ) (d' : Counters) (tw' ts' : List ℕ)
-    → compact_reply t w s c root tw ts d ≡ reply (ok m) d' tw' ts' → (ws : List ℕ)
+    → compact_reply t w s c root tw ts d ≡ reply (Ok m) d' tw' ts' → (ws : List ℕ)
     → fits_reply t tw' ts' d' m ws ≡ fits_reply t w s c root ws
 
 -- the words of two fixes with one tree, each with the names of its table
@@ -199,6 +200,6 @@ pub record SameFix (ns : List Name) (ws : List ℕ) (ms : List Name) (xs : List 
 abbrev pub FitsImport : Type 0
 FitsImport =
     (t w s : List ℕ) (c : Counters) (root : ℕ) (tt tw ts : List ℕ) (d : Counters) (m : ℕ) (d' : Counters) (tw' ts' : List ℕ)
-    → import_reply t w s c root tt tw ts d ≡ reply (ok m) d' tw' ts'
+    → import_reply t w s c root tt tw ts d ≡ reply (Ok m) d' tw' ts'
     → (ns ms : List Name) → names_of t ≡ some ns → names_of tt ≡ some ms → (ws xs : List ℕ) → SameFix ns ws ms xs
     → fits_reply tt tw' ts' d' m xs ≡ fits_reply t w s c root ws

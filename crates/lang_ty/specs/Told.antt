@@ -1,19 +1,19 @@
--- What a call of the C interface answers and leaves, from what the call of that name is defined to answer (01, "Who can cause which
--- number"): a number, which is 0 or that of a refusal, and lent memory.
-use Rattle.std.specs.Prelude.{ℕ, List}
+-- What a call of the C interface answers and leaves, from what the call of that name is defined to answer: a number, which is 0 or that of
+-- a refusal, and lent memory.
+use Rattle.std.specs.Prelude.{ℕ, List, Ok, Err}
 use Rattle.words.specs.Words.{bit}
-use Rattle.types.specs.Out.{Out, ok, refuse, number, ◌>>=◌}
+use Rattle.types.specs.Out.{Out, number, ◌>>=◌}
 use Rattle.types.specs.Reply.{Reply, reply}
 use Rattle.display.specs.Reply as text
 use Rattle.types.specs.declared.Counters.{Counters}
-use Rattle.types.specs.declared.Ordering.{Ordering}
-use Rattle.types.specs.declared.Ordering.TheVariants as ordering
+use Rattle.std.specs.declared.cmp.Ordering.{Ordering}
+use Rattle.std.specs.declared.cmp.Ordering.TheVariants as ordering
 use Rattle.name_lookup.specs.declared.Position.{Position}
 
 -- what stands where a result is lent: a refusal leaves what stood there
 abbrev pub or_left : {A : Type 0} → A → Out A → A
-or_left old (ok x) = x
-or_left old (refuse e) = old
+or_left old (Ok x) = x
+or_left old (Err e) = old
 
 -- the number, and the lent result
 pub data Told (A : Type 0) : Type 0 where
@@ -48,13 +48,13 @@ order_number ordering.Greater = 2
 
 -- an answer told in another way
 abbrev pub told_as : {A B : Type 0} → (A → B) → Out A → Out B
-told_as f o = o >>= λ x. ok (f x)
+told_as f o = o >>= λ x. Ok (f x)
 
 -- as a number
 abbrev pub as_number : {A : Type 0} → (A → ℕ) → Out A → Out ℕ
 as_number f o = told_as f o
 
--- where a text stands, in the two numbers of the header (host/lang_ty.h; 02, A3): 1 and the number of the name that is the text, or 0 and
+-- where a text stands, in the two numbers of the header (host/lang_ty.h): 1 and the number of the name that is the text, or 0 and
 -- how many names come before it
 pub record FoundPlace : Type 0 where
   pub found : ℕ

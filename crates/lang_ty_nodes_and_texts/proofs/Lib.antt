@@ -1,5 +1,1 @@
-pub mod Storing
-pub mod Orders
-pub mod Positions
-pub mod Lengths
 pub mod Converting

@@ -4,29 +4,29 @@
 #![tactic(auto)]
 
 ghost use Rattle.std.specs.Prelude.{◌≡◌};
-ghost use Rattle.types.specs.Out.{number as refusal_number};
 ghost use Rattle.types.specs.Short.{short_text};
 ghost use Rattle.types.specs.Tyvar.{tyvar_name};
 ghost use Rattle.names.specs.Table.{name_order};
-ghost use Rattle.names.specs.Reply.{table_reply, table_out, name_reply, placed_out};
-ghost use Rattle.name_lookup.specs.Lookup.{find_reply, lookup_out};
+ghost use Rattle.names.specs.Reply.{table_reply, name_reply};
+ghost use Rattle.name_lookup.specs.Lookup.{find_reply};
 ghost use Rattle.arena.specs.Intern.{intern_reply};
-ghost use Rattle.arena.specs.Compare.{compare_reply, compared_out};
-ghost use Rattle.display.specs.Reply.{display_reply, display_nix_reply, displayed_out};
-ghost use Rattle.sheet_writing.specs.Reply.{write_sheet_reply, written_out};
+ghost use Rattle.arena.specs.Compare.{compare_reply};
+ghost use Rattle.display.specs.Reply.{display_reply, display_nix_reply};
+ghost use Rattle.sheet_writing.specs.Reply.{write_sheet_reply};
 ghost use Rattle.sheet_converting.specs.Convert.{convert_reply};
 ghost use Rattle.sheet_format.specs.Line.{WritesLine};
 ghost use Rattle.lang_ty.specs.Told.{told, tell, told_as, as_number, order_number, in_numbers};
 ghost use Rattle.lang_ty.specs.Told.{told_arena, tell_arena, told_text, tell_text, tell_converted};
 
-use arena::{Compared, compare};
-use display::{Displayed, display, display_nix};
-use lent_counters::{Stored, intern_lent_pair};
-use name_lookup::{Lookup, find_name};
-use names::{Placed, Table, check_names, name_stretch};
-use sheet_converting::{Converted, convert_sheet};
+use arena::compare;
+use display::{display, display_nix};
+use lang_ty::tell;
+use lent_counters::intern_lent_pair;
+use name_lookup::find_name;
+use names::{check_names, name_stretch};
+use sheet_converting::convert_sheet;
 use sheet_format::sheet_line;
-use sheet_writing::{Written, write_sheet};
+use sheet_writing::write_sheet;
 use types::arc_ty::tyvar_name;
 use types::{Counters, Ordering};
 
@@ -47,21 +47,11 @@ pub extern "C" fn lang_ty_intern(
         record { nodes = nodes.entry.now; words = used.old } node.now) }
 {
     let stored = intern_lent_pair(table, words, starts, nodes, used, node);
-    let Stored::Node(n) = stored else {
-        return stored.refusal();
+    let Ok(n) = stored else {
+        return stored.unwrap_err().number();
     };
     *number = n;
     0
-}
-
-// The number of a refused table.
-fn table_refusal(answer: Table) -> u32
-    ensures { result ≡ refusal_number (table_out answer) }
-{
-    match answer {
-        Table::Names(_) => 0,
-        Table::Refused(e) => e,
-    }
 }
 
 // How many names the table has.
@@ -69,22 +59,7 @@ fn table_refusal(answer: Table) -> u32
 pub extern "C" fn lang_ty_check_names(table: &[u8], count: &mut usize) -> u32
     ensures { told result count.new ≡ tell count.old (table_reply table.now) }
 {
-    let answer = check_names(table);
-    let Table::Names(n) = answer else {
-        return table_refusal(answer);
-    };
-    *count = n;
-    0
-}
-
-// The number of a refused name.
-fn placed_refusal(answer: Placed) -> u32
-    ensures { result ≡ refusal_number (placed_out answer) }
-{
-    match answer {
-        Placed::At(_) => 0,
-        Placed::Refused(e) => e,
-    }
+    tell(check_names(table), count)
 }
 
 // Where the text of the name with this number lies in the table.
@@ -98,22 +73,13 @@ pub extern "C" fn lang_ty_name_at(
     ensures { told result record { start = start.exit.now; length = length.new }
         ≡ tell record { start = start.entry.now; length = length.old } (name_reply table.now number) }
 {
-    let answer = name_stretch(table, number);
-    let Placed::At(text) = answer else {
-        return placed_refusal(answer);
-    };
-    *start = text.start;
-    *length = text.length;
-    0
-}
-
-// The number of a refused search for a text.
-fn lookup_refusal(answer: Lookup) -> u32
-    ensures { result ≡ refusal_number (lookup_out answer) }
-{
-    match answer {
-        Lookup::At(_) => 0,
-        Lookup::Refused(e) => e,
+    match name_stretch(table, number) {
+        Ok(text) => {
+            *start = text.start;
+            *length = text.length;
+            0
+        }
+        Err(refusal) => refusal.number(),
     }
 }
 
@@ -129,13 +95,14 @@ pub extern "C" fn lang_ty_find_name(
         ≡ tell record { found = found.entry.now; place = place.old }
         (told_as in_numbers (find_reply table.now text.now)) }
 {
-    let answer = find_name(table, text);
-    let Lookup::At(position) = answer else {
-        return lookup_refusal(answer);
-    };
-    *found = position.found as u32;
-    *place = position.place;
-    0
+    match find_name(table, text) {
+        Ok(position) => {
+            *found = u32::from(position.found);
+            *place = position.place;
+            0
+        }
+        Err(refusal) => refusal.number(),
+    }
 }
 
 // 0, 1 and 2: before, the same, after.
@@ -158,16 +125,6 @@ pub extern "C" fn lang_ty_compare_names(left: &[u8], right: &[u8], order: &mut u
     0
 }
 
-// The number of a refused comparison.
-fn compared_refusal(answer: Compared) -> u32
-    ensures { result ≡ refusal_number (compared_out answer) }
-{
-    match answer {
-        Compared::Stand(_) => 0,
-        Compared::Refused(e) => e,
-    }
-}
-
 // How two nodes stand in order.
 #[unsafe(no_mangle)]
 pub extern "C" fn lang_ty_compare(
@@ -186,11 +143,7 @@ pub extern "C" fn lang_ty_compare(
 {
     let c = Counters { nodes, words: used };
     let answer = compare(table, words, starts, c, left, right);
-    let Compared::Stand(o) = answer else {
-        return compared_refusal(answer);
-    };
-    *order = order_number(o);
-    0
+    tell(answer.map(order_number), order)
 }
 
 // How a type variable is printed: the text, zeros after it, and its length.
@@ -202,17 +155,6 @@ pub extern "C" fn lang_ty_tyvar_name(index: u32, text: &mut [u8; 11], len: &mut 
     let bytes = name.bytes;
     *text = bytes;
     *len = name.len;
-    0
-}
-
-// What is told of a text: its length, or the number of a refusal.
-fn tell_length(answer: Displayed, len: &mut usize) -> u32
-    ensures { told result len.new ≡ tell len.old (displayed_out answer) }
-{
-    let Displayed::Text(n) = answer else {
-        return answer.refusal();
-    };
-    *len = n;
     0
 }
 
@@ -233,7 +175,7 @@ pub extern "C" fn lang_ty_display(
         record { nodes = nodes; words = used } root text.old) }
 {
     let c = Counters { nodes, words: used };
-    tell_length(display(table, words, starts, c, root, text), len)
+    tell(display(table, words, starts, c, root, text), len)
 }
 
 // The same, its names as the Nix manual writes them.
@@ -253,17 +195,7 @@ pub extern "C" fn lang_ty_display_nix(
         record { nodes = nodes; words = used } root text.old) }
 {
     let c = Counters { nodes, words: used };
-    tell_length(display_nix(table, words, starts, c, root, text), len)
-}
-
-// The number of a refused sheet.
-fn written_refusal(answer: Written) -> u32
-    ensures { result ≡ refusal_number (written_out answer) }
-{
-    match answer {
-        Written::Sheet(_) => 0,
-        Written::Refused(e) => e,
-    }
+    tell(display_nix(table, words, starts, c, root, text), len)
 }
 
 // The sheet of the table's names, the arena and the root.
@@ -283,12 +215,7 @@ pub extern "C" fn lang_ty_write_sheet(
         record { nodes = nodes; words = used } root bytes.old) }
 {
     let c = Counters { nodes, words: used };
-    let answer = write_sheet(table, words, starts, c, root, bytes);
-    let Written::Sheet(size) = answer else {
-        return written_refusal(answer);
-    };
-    *len = size;
-    0
+    tell(write_sheet(table, words, starts, c, root, bytes), len)
 }
 
 // An old sheet made a new one, in place.
@@ -296,10 +223,9 @@ pub extern "C" fn lang_ty_write_sheet(
 pub extern "C" fn lang_ty_convert_sheet(sheet: &mut [u8]) -> u32
     ensures { told result sheet.new ≡ tell_converted (convert_reply sheet.old) }
 {
-    let converted = convert_sheet(sheet);
-    match converted {
-        Converted::Sheet => 0,
-        Converted::Refused(e) => e,
+    match convert_sheet(sheet) {
+        Ok(()) => 0,
+        Err(refusal) => refusal.number(),
     }
 }
 

@@ -5,12 +5,11 @@
 
 ghost use Rattle.std.specs.Prelude.{◌≡◌};
 ghost use Rattle.words.specs.Words.{bit};
-ghost use Rattle.types.specs.Out.{number as refusal_number};
 ghost use Rattle.walks.specs.Asked.{ask_reply};
-ghost use Rattle.walks.specs.Reach.{reach_count, counted_out};
-ghost use Rattle.questions.specs.Vars.{has_type_vars, contains_bare_tyvar, asked_out};
+ghost use Rattle.walks.specs.Reach.{reach_count};
+ghost use Rattle.questions.specs.Vars.{has_type_vars, contains_bare_tyvar};
 ghost use Rattle.questions.specs.Lambdas.{has_shared_tyvar_across_lambda_params};
-ghost use Rattle.questions.specs.Named.{unwrap_named, unwrapped_out};
+ghost use Rattle.questions.specs.Named.{unwrap_named};
 ghost use Rattle.free_vars.specs.FreeVars.{free_list};
 ghost use Rattle.equal.specs.Reply.{equal_reply};
 ghost use Rattle.fits.specs.Fits.{fits_reply};
@@ -18,32 +17,19 @@ ghost use Rattle.lang_ty.specs.Told.{told, tell, as_number};
 
 use equal::structurally_eq;
 use fits::fits;
-use free_vars::{Listed, list_free_type_vars};
+use free_vars::list_free_type_vars;
+use lang_ty::tell;
 use questions::lambdas::has_shared_tyvar_across_lambda_params;
-use questions::named::{Unwrapped, unwrap_named};
-use questions::vars::{Asked, contains_bare_tyvar, has_type_vars, needs_var_normalization};
-use types::Counters;
-use walks::reach::{Counted, count_reachable};
-
-// The number of a refused question.
-fn asked_refusal(answer: Asked) -> u32
-    ensures { result ≡ refusal_number (asked_out answer) }
-{
-    match answer {
-        Asked::Is(_) => 0,
-        Asked::Refused(e) => e,
-    }
-}
+use questions::named::unwrap_named;
+use questions::vars::{contains_bare_tyvar, has_type_vars, needs_var_normalization};
+use types::{Counters, Refusal};
+use walks::reach::count_reachable;
 
 // A yes or no, told to a host.
-fn tell_asked(answer: Asked, is: &mut u32) -> u32
-    ensures { told result is.new ≡ tell is.old (as_number bit (asked_out answer)) }
+fn tell_asked(answer: Result<bool, Refusal>, is: &mut u32) -> u32
+    ensures { told result is.new ≡ tell is.old (as_number bit answer) }
 {
-    let Asked::Is(so) = answer else {
-        return asked_refusal(answer);
-    };
-    *is = so as u32;
-    0
+    tell(answer.map(u32::from), is)
 }
 
 #[unsafe(no_mangle)]
@@ -121,16 +107,6 @@ pub extern "C" fn lang_ty_has_shared_tyvar_across_lambda_params(
     )
 }
 
-// The number of a refused root.
-fn unwrapped_refusal(answer: Unwrapped) -> u32
-    ensures { result ≡ refusal_number (unwrapped_out answer) }
-{
-    match answer {
-        Unwrapped::Node(_) => 0,
-        Unwrapped::Refused(e) => e,
-    }
-}
-
 // What the root stands for.
 #[unsafe(no_mangle)]
 pub extern "C" fn lang_ty_unwrap_named(
@@ -147,21 +123,12 @@ pub extern "C" fn lang_ty_unwrap_named(
         record { nodes = nodes; words = used } root) }
 {
     let c = Counters { nodes, words: used };
-    let answer = unwrap_named(table, words, starts, c, root);
-    let Unwrapped::Node(n) = answer else {
-        return unwrapped_refusal(answer);
-    };
-    *number = n as u32;
-    0
-}
-
-// The number of a refused count.
-fn counted_refusal(answer: Counted) -> u32
-    ensures { result ≡ refusal_number (counted_out answer) }
-{
-    match answer {
-        Counted::Nodes(_) => 0,
-        Counted::Refused(e) => e,
+    match unwrap_named(table, words, starts, c, root) {
+        Ok(n) => {
+            *number = n as u32;
+            0
+        }
+        Err(refusal) => refusal.number(),
     }
 }
 
@@ -181,12 +148,7 @@ pub extern "C" fn lang_ty_count_reachable(
         record { nodes = nodes; words = used } root) }
 {
     let c = Counters { nodes, words: used };
-    let answer = count_reachable(table, words, starts, c, root);
-    let Counted::Nodes(n) = answer else {
-        return counted_refusal(answer);
-    };
-    *count = n;
-    0
+    tell(count_reachable(table, words, starts, c, root), count)
 }
 
 // The variables of the type of the root, in the order of a first visit.
@@ -206,14 +168,8 @@ pub extern "C" fn lang_ty_free_type_vars(
         words.now starts.now record { nodes = nodes; words = used } root) }
 {
     let c = Counters { nodes, words: used };
-    let r = list_free_type_vars(table, words, starts, c, root, vars);
-    match r {
-        Listed::Count(listed) => {
-            *count = listed;
-            0
-        }
-        Listed::Refused(e) => e,
-    }
+    let listed = list_free_type_vars(table, words, starts, c, root, vars);
+    tell(listed, count)
 }
 
 // Whether two types, each in an arena of its own, are structurally equal.

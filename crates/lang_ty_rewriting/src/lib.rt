@@ -7,20 +7,19 @@ ghost use Rattle.std.specs.Prelude.{◌≡◌, true, false};
 ghost use Rattle.recursion.specs.Hosted.{work_reply};
 ghost use Rattle.renumber.specs.Renumber.{normalize};
 ghost use Rattle.set_op_lists.specs.SetOps.{normalize_set_ops};
-ghost use Rattle.types.specs.Out.{number as refusal_number};
-ghost use Rattle.compact.specs.Compact.{compact_reply, answered};
+ghost use Rattle.compact.specs.Compact.{compact_reply};
 ghost use Rattle.import.specs.Import.{import_reply};
 ghost use Rattle.lang_ty.specs.Told.{told_arena, tell_arena};
 ghost use Rattle.lang_ty_rewriting.specs.Inner.{TellsWorked};
 ghost use Rattle.lang_ty_rewriting.specs.Changed.{TellsSimplified};
 
-use compact::{Copied, compact};
+use compact::compact;
 use import::import_from_arena;
-use node_store::added::Interned;
+use lang_ty::tell;
 use renumber::{normalize_replacing_unknown, normalize_vars};
 use set_ops::normalize_set_ops;
-use simplify::{Simplified, simplify};
-use types::Counters;
+use simplify::simplify;
+use types::{Counters, Refusal};
 
 // What the type of the root becomes, and in how many passes.
 #[unsafe(no_mangle)]
@@ -45,23 +44,28 @@ pub extern "C" fn lang_ty_simplify(
         words: *used,
     };
     let simplified = simplify(table, words, starts, c, root);
-    let Simplified::Type(n, made, d) = simplified else {
-        return simplified.refusal();
+    let Ok(done) = simplified else {
+        return simplified.unwrap_err().number();
     };
-    *nodes = d.nodes;
-    *used = d.words;
-    *root_after = n;
-    *passes = made;
+    *nodes = done.counters.nodes;
+    *used = done.counters.words;
+    *root_after = done.root;
+    *passes = done.passes;
     0
 }
 
 // What a call that works on a root answers, told to a host.
-fn tell_worked(answer: Interned, nodes: &mut usize, used: &mut usize, root_after: &mut u32) -> u32
+fn tell_worked(
+    answer: Result<(u32, Counters), Refusal>,
+    nodes: &mut usize,
+    used: &mut usize,
+    root_after: &mut u32,
+) -> u32
     ensures { TellsWorked (record { nodes = nodes.entry.now; words = used.old }) answer root_after.old result
         root_after.new (record { nodes = nodes.exit.now; words = used.new }) }
 {
-    let Interned::Node(n, d) = answer else {
-        return answer.refusal();
+    let Ok((n, d)) = answer else {
+        return answer.unwrap_err().number();
     };
     *nodes = d.nodes;
     *used = d.words;
@@ -138,16 +142,6 @@ pub extern "C" fn lang_ty_normalize_set_ops(
     tell_worked(answer, nodes, used, root_after)
 }
 
-// The number of a refused copy.
-fn copied_refusal(answer: Copied) -> u32
-    ensures { result ≡ refusal_number (answered answer) }
-{
-    match answer {
-        Copied::Root(_) => 0,
-        Copied::Refused(e) => e,
-    }
-}
-
 // The type of the root, copied into a target.
 #[unsafe(no_mangle)]
 pub extern "C" fn lang_ty_compact(
@@ -175,7 +169,7 @@ pub extern "C" fn lang_ty_compact(
         nodes: *target_nodes,
         words: *target_used,
     };
-    let r = compact(
+    let compacted = compact(
         table,
         words,
         starts,
@@ -185,15 +179,9 @@ pub extern "C" fn lang_ty_compact(
         target_starts,
         counters,
     );
-    let d = r.counters;
-    *target_nodes = d.nodes;
-    *target_used = d.words;
-    let answer = r.answer;
-    let Copied::Root(n) = answer else {
-        return copied_refusal(answer);
-    };
-    *root_after = n;
-    0
+    *target_nodes = compacted.counters.nodes;
+    *target_used = compacted.counters.words;
+    tell(compacted.answer, root_after)
 }
 
 // The type of the root, imported into a target with its own name table.

@@ -3,50 +3,28 @@
 #![tactic(auto)]
 
 ghost use Rattle.std.specs.Prelude.{◌≡◌};
-ghost use Rattle.types.specs.Out.{number};
 ghost use Rattle.types.specs.Reply.{reply};
 ghost use Rattle.arena.specs.Intern.{intern_reply};
 ghost use Rattle.lent_counters.specs.Inner.{stored, counters_left};
-ghost use Rattle.lent_counters.specs.Lent.{stored_out};
 
 use arena::intern;
-use node_store::added::Interned;
-use types::Counters;
-
-// A node's number, or the number of a refusal. The counters stand where they were lent.
-#[derive(Clone, Copy)]
-pub enum Stored {
-    Node(u32),
-    Refused(u32),
-}
-
-impl Stored {
-    // The number of a refusal, for an answer of another type.
-    pub fn refusal(self) -> u32
-        ensures { result ≡ number (stored_out self) }
-    {
-        match self {
-            Stored::Node(_) => 0,
-            Stored::Refused(number) => number,
-        }
-    }
-}
+use types::{Counters, Refusal};
 
 // The answer without its counters.
-fn stored_of(answer: Interned) -> Stored
+fn stored_of(answer: Result<(u32, Counters), Refusal>) -> Result<u32, Refusal>
     ensures { result ≡ stored answer }
 {
-    let Interned::Node(n, _) = answer else {
-        return Stored::Refused(answer.refusal());
+    let Ok((n, _)) = answer else {
+        return Err(answer.unwrap_err());
     };
-    Stored::Node(n)
+    Ok(n)
 }
 
 // The counters that an answer leaves where they were c: its own, or c after a refusal.
-fn counters_after(answer: Interned, c: Counters) -> Counters
+fn counters_after(answer: Result<(u32, Counters), Refusal>, c: Counters) -> Counters
     ensures { result ≡ counters_left c answer }
 {
-    let Interned::Node(_, d) = answer else {
+    let Ok((_, d)) = answer else {
         return c;
     };
     d
@@ -59,8 +37,8 @@ pub fn intern_lent(
     starts: &mut [u32],
     counters: &mut Counters,
     node: &[u32],
-) -> Stored
-    ensures { reply (stored_out result) counters.new words.new starts.new
+) -> Result<u32, Refusal>
+    ensures { reply result counters.new words.new starts.new
         ≡ intern_reply table.now words.old starts.old counters.old node.now }
 {
     let c = *counters;
@@ -77,8 +55,8 @@ pub fn intern_lent_pair(
     nodes: &mut usize,
     used: &mut usize,
     node: &[u32],
-) -> Stored
-    ensures { reply (stored_out result) record { nodes = nodes.exit.now; words = used.new } words.new
+) -> Result<u32, Refusal>
+    ensures { reply result record { nodes = nodes.exit.now; words = used.new } words.new
         starts.new
         ≡ intern_reply table.now words.old starts.old
         record { nodes = nodes.entry.now; words = used.old } node.now }

@@ -7,7 +7,10 @@ use native.Mathlib.Omega.{arith}
 use lib.ListN.{length, get_or, take, replicate}
 use lib.Seq.{length-take-le, take_all, take-suc}
 use borrow.Author.Tests.{eqb-true}
-use Rattle.types.specs.Out.{Out, ok, ◌>>=◌}
+use Rattle.std.specs.Prelude as std
+use Rattle.std.specs.Prelude.{Ok, Err, Some, None}
+use Rattle.types.specs.declared.refusal.Refusal.{Refusal}
+use Rattle.types.specs.Out.{Out, ◌>>=◌}
 use Rattle.types.specs.Kind.{disc, body_count}
 use Rattle.types.specs.Node.{Polarity, positive, negative, members, bound, Node, node, tag, children, kind, child_words_in, below, formed}
 use Rattle.types.specs.Arena.{Arena, at, sound}
@@ -19,8 +22,6 @@ use Rattle.types.proofs.Lists.{below_at}
 use Rattle.types.proofs.Nodes.{nil, formed_parts}
 use Rattle.types.proofs.Sound.{at_formed}
 use Rattle.node_store.specs.Intern.{intern, left}
-use Rattle.node_store.specs.declared.added.Interned.{Interned}
-use Rattle.node_store.specs.declared.added.Interned.TheVariants as interned
 use Rattle.node_store.proofs.Additions.{finished}
 use Rattle.recursion.specs.Jobs.{Job}
 use Rattle.recursion.proofs.Interning.{At, node_is, intern_there}
@@ -31,12 +32,6 @@ use Rattle.simplification.proofs.Becoming.{Inside, brought_inside}
 use Rattle.simplification.proofs.Applying.{gather_decided, gather_open}
 use Rattle.member_lists.specs.Inner.Members.{grown_out, Gathering, Flattening, Flattens, Decides, Listing, Filled, InternsList, Finishes, ClosesOpen}
 use Rattle.member_lists.specs.Inner.Closed.{Closing, ClosesTo, done, emptied, Closes}
-use Rattle.member_lists.specs.declared.Closed.{Closed}
-use Rattle.member_lists.specs.declared.Closed.TheVariants as closed
-use Rattle.member_lists.specs.declared.Decision.{Decision}
-use Rattle.member_lists.specs.declared.Decision.TheVariants as decision
-use Rattle.member_lists.specs.declared.growing.Grown.{Grown}
-use Rattle.member_lists.specs.declared.growing.Grown.TheVariants as grown
 use Rattle.member_lists.proofs.MemberBits.{growing_none}
 use Rattle.member_lists.proofs.Copying.{room_length}
 
@@ -49,7 +44,7 @@ module _ (items : List ℕ) (count : ℕ) where
   items_all l = sym (take_all count items l)
 
 -- a number that was there before
-pub stands : {table : ℕ} {w s : List ℕ} {c : Counters} {a : Arena} (n : ℕ) → Holds table w s c a → left c (interned.Node n c) w s ≡ reply_of w s c (ok (n, a))
+pub stands : {table : ℕ} {w s : List ℕ} {c : Counters} {a : Arena} (n : ℕ) → Holds table w s c a → left c (Ok (n, c)) w s ≡ reply_of w s c (Ok (n, a))
 unfolding reply_of
 stands {w = w} {s = s} {a = a} n H = finished a (length w) (length s) refl H.nodes H.total H.words H.starts
 
@@ -61,13 +56,13 @@ close_several lw ls k first (m ∷ []) a h = absurd (omega arith)
 close_several lw ls k first (m ∷ n ∷ ms) a h = refl
 
 module _ {w s : List ℕ} {c : Counters} {number : ℕ} {items : List ℕ} {count : ℕ} where
-  pub finish_none : count ≡ 0 → Finishes w s c number items count w s closed.Empty
+  pub finish_none : count ≡ 0 → Finishes w s c number items count w s None
   unfolding close
   finish_none e = record {
     is = λ table a k first H q. emptied (ap (λ (n : ℕ). close (length w) (length s) k first (take n items) a) e) refl refl;
   }
 
-  pub finish_one : Listing w s c number items count → count ≡ 1 → Finishes w s c number items count w s (closed.Done (interned.Node (get_or items 0 0) c))
+  pub finish_one : Listing w s c number items count → count ≡ 1 → Finishes w s c number items count w s (Some (Ok (get_or items 0 0, c)))
   unfolding close
   finish_one L e = record {
     is = λ table a k first H q.
@@ -79,7 +74,7 @@ module _ {w s : List ℕ} {c : Counters} {number : ℕ} {items : List ℕ} {coun
     pub finish_ready : Filled w s c number items count
     finish_ready = record { listing = L; some = omega arith }
 
-    pub finish_several : (count ≡ 1 → ⊥) → {w' s' : List ℕ} {r : Interned} → InternsList w s c number items count w' s' r → Finishes w s c number items count w' s' (closed.Done r)
+    pub finish_several : (count ≡ 1 → ⊥) → {w' s' : List ℕ} {r : Out (ℕ × Counters)} → InternsList w s c number items count w' s' r → Finishes w s c number items count w' s' (Some r)
     finish_several g I = record {
       is = λ table a k first H q.
           done (I.is table a k H q ∙ ap (reply_of w s c) (sym (close_several (length w) (length s) k first (take count items) a (omega (arith, room_length L.room)))));
@@ -104,35 +99,35 @@ module _ {w s : List ℕ} {c : Counters} {number : ℕ} {ms : List ℕ} where
   pub open_flattens : Gathering w s c number ms → Flattening w s c number ms (replicate 64 0) (replicate 64 0)
   open_flattens G = record { gathering = G; growing = growing_none }
 
-  module _ {items₀ met₀ items met : List ℕ} {r : Grown} (F : Flattens w s c number ms items₀ 0 met₀ items met r) where
+  module _ {items₀ met₀ items met : List ℕ} {r : Out ℕ} (F : Flattens w s c number ms items₀ 0 met₀ items met r) where
     -- the list that was made, or 8
-    made : (g : Grown) → r ≡ g → (table : ℕ) (a : Arena) (k : Polarity) → Holds table w s c a → number ≡ disc (kind (members k)) → member_list k a ms ≡ grown_out items g
+    made : (g : Out ℕ) → r ≡ g → (table : ℕ) (a : Arena) (k : Polarity) → Holds table w s c a → number ≡ disc (kind (members k)) → member_list k a ms ≡ grown_out items g
     unfolding member_list
     made g f table a k H q = sym (F.is table a k H q).is ∙ ap (grown_out items) f
 
-    pub open_full : r ≡ grown.Full → ClosesOpen w s c number ms w s (closed.Done (interned.Refused 8))
+    pub open_full : {e : Refusal} → r ≡ Err e → ClosesOpen w s c number ms w s (Some (Err e))
     unfolding reply_of ◌>>=◌
-    open_full f = record {
-      is = λ table a k first H q. done (ap (λ (o : Out (List ℕ)). reply_of w s c (o >>= λ (l : List ℕ). close (length w) (length s) k first l a)) (sym (made grown.Full f table a k H q)));
+    open_full {e} f = record {
+      is = λ table a k first H q. done (ap (λ (o : Out (List ℕ)). reply_of w s c (o >>= λ (l : List ℕ). close (length w) (length s) k first l a)) (sym (made (Err e) f table a k H q)));
     }
 
-    module _ {count : ℕ} (f : r ≡ grown.Count count) where
+    module _ {count : ℕ} (f : r ≡ Ok count) where
       pub open_listing : Gathering w s c number ms → Listing w s c number items count
       open_listing G =
           let H = G.lent.holds in
           let a = G.lent.view in
-          let m = made (grown.Count count) f G.lent.table a G.side H G.kind_is in
+          let m = made (Ok count) f G.lent.table a G.side H G.kind_is in
           let b = member_below (length a) (take count items) (brought_inside G.lent.table a H.good G.side ms (inside G G.lent.table a H) (take count items) m) in
           record {
             gathering = record { lent = G.lent; side = G.side; kind_is = G.kind_is; low = subst (λ (n : ℕ). below n (take count items) ≡ true) (sym H.nodes) b };
             room = ((F.is G.lent.table a G.side H G.kind_is).growing count f).room;
           }
 
-      pub open_finished : {w' s' : List ℕ} {o : Closed} → Finishes w s c number items count w' s' o → ClosesOpen w s c number ms w' s' o
+      pub open_finished : {w' s' : List ℕ} {o : std.Option (Out (ℕ × Counters))} → Finishes w s c number items count w' s' o → ClosesOpen w s c number ms w' s' o
       unfolding ◌>>=◌
       open_finished {w'} {s'} {o} E = record {
         is = λ table a k first H q.
-            subst (λ (x : Out (List ℕ)). ClosesTo w s c w' s' o (x >>= λ (l : List ℕ). close (length w) (length s) k first l a) (first a)) (sym (made (grown.Count count) f table a k H q)) (E.is table a k first H q);
+            subst (λ (x : Out (List ℕ)). ClosesTo w s c w' s' o (x >>= λ (l : List ℕ). close (length w) (length s) k first l a) (first a)) (sym (made (Ok count) f table a k H q)) (E.is table a k first H q);
       }
 
 module _ {w s : List ℕ} {c : Counters} {number : ℕ} {items : List ℕ} {count : ℕ} (C : Closing w s c number items count) {ms : List ℕ} (e : ms ≡ take count items) where
@@ -140,20 +135,20 @@ module _ {w s : List ℕ} {c : Counters} {number : ℕ} {items : List ℕ} {coun
   closing_gathers = record { lent = C.lent; side = C.side; kind_is = C.kind_is; low = ap (below c.nodes) e ∙ C.low }
 
   -- what is said of the members is said of the items in use
-  answered : {w' s' : List ℕ} {r : Closed} → ((table : ℕ) (a : Arena) (k : Polarity) (first : Job) → Holds table w s c a → number ≡ disc (kind (members k))
+  answered : {w' s' : List ℕ} {r : std.Option (Out (ℕ × Counters))} → ((table : ℕ) (a : Arena) (k : Polarity) (first : Job) → Holds table w s c a → number ≡ disc (kind (members k))
       → ClosesTo w s c w' s' r (gather (length w) (length s) k first ms a) (first a)) → Closes w s c number items count w' s' r
   answered {w'} {s'} {r} f = record {
     is = λ table a k first H q. subst (λ (l : List ℕ). ClosesTo w s c w' s' r (gather (length w) (length s) k first l a) (first a)) e (f table a k first H q);
   }
 
-  module _ {d : Decision} (D : Decides w s c number ms d) where
-    pub closed_decided : {n : ℕ} → d ≡ decision.By n → Closes w s c number items count w s (closed.Done (interned.Node n c))
+  module _ {d : std.Option ℕ} (D : Decides w s c number ms d) where
+    pub closed_decided : {n : ℕ} → d ≡ Some n → Closes w s c number items count w s (Some (Ok (n, c)))
     closed_decided {n} p = answered (λ table a k first H q.
         let F = D.by n p table a k H q in
         let B = bound_at table a H.good n (inside closing_gathers table a H n F.0) (opposite k) F.1 in
         done (stands n H
         ∙ ap (reply_of w s c) (sym (gather_decided (length w) (length s) k first ms a (decided_if k a ms n F.0 F.1) ∙ intern_there (length w) (length s) table (node (bound (opposite k)) []) a H.good n B))))
 
-    pub closed_open : d ≡ decision.Open → {w' s' : List ℕ} {r : Closed} → ClosesOpen w s c number ms w' s' r → Closes w s c number items count w' s' r
+    pub closed_open : d ≡ None → {w' s' : List ℕ} {r : std.Option (Out (ℕ × Counters))} → ClosesOpen w s c number ms w' s' r → Closes w s c number items count w' s' r
     closed_open p {w'} {s'} {r} O = answered (λ table a k first H q.
         subst (λ (x : Out (ℕ × Arena)). ClosesTo w s c w' s' r x (first a)) (sym (gather_open (length w) (length s) k first ms a (D.not p table a k H q))) (O.is table a k first H q))

@@ -5,6 +5,7 @@ use mathlib.Core.List.{List, Memᴰ as Mem}
 use native.Mathlib.Omega.{arith}
 use lib.ListN.{length, get_or}
 use borrow.Author.Count.{below_more}
+use Rattle.std.specs.Prelude.{Some, None}
 use Rattle.types.specs.Kind.{disc}
 use Rattle.types.specs.Node.{Polarity, Tag, members, bound, tag, kind}
 use Rattle.types.specs.Arena.{Arena, at}
@@ -19,7 +20,6 @@ use Rattle.recursion.proofs.Members.{index_of, member_at}
 use Rattle.simplification.specs.Pass.{is_decided}
 use Rattle.simplification.proofs.Members.{decided_by}
 use Rattle.member_lists.specs.Inner.Members.{DecidingOf, Gathering, Decides}
-use Rattle.member_lists.specs.declared.Decision.TheVariants as decision
 use Rattle.member_lists.proofs.BoundKinds.{bound_told}
 
 -- the node n is not the bound that decides
@@ -41,7 +41,7 @@ module _ {w s : List ℕ} {c : Counters} {number : ℕ} {ms : List ℕ} {wanted 
   undecided_start G D = record { gathering = G; deciding = D; high = omega arith; each = λ j l. absurd (omega arith) }
 
   module _ {i : ℕ} (U : Undecided w s c number ms wanted i) where
-    pub undecided_done : length ms ≤ i → Decides w s c number ms decision.Open
+    pub undecided_done : length ms ≤ i → Decides w s c number ms None
     undecided_done h = record {
       by = λ n e. let z : ◌≡◌ {A = ℕ} 0 1 = cc in absurd (omega arith);
       not = λ e table a k H q. not_true (is_decided k a ms) (λ d.
@@ -55,7 +55,7 @@ module _ {w s : List ℕ} {c : Counters} {number : ℕ} {ms : List ℕ} {wanted 
       undecided_in = record { lent = U.gathering.lent; inside = below_at c.nodes ms U.gathering.low i l }
 
       module _ {own : ℕ} (K : KindAt w s c (get_or ms i 0) own) where
-        pub undecided_hit : own ≡ wanted → Decides w s c number ms (decision.By (get_or ms i 0))
+        pub undecided_hit : own ≡ wanted → Decides w s c number ms (Some (get_or ms i 0))
         undecided_hit q = record { by = λ n f. subst (Decider w s c number ms) (cc) found; not = λ f. let z : ◌≡◌ {A = ℕ} 0 1 = cc in absurd (omega arith) }
           where
             found : Decider w s c number ms (get_or ms i 0)

@@ -1,13 +1,13 @@
 -- The words of a member list, and the node that they are.
-use Prim.Native.Nat.{ℕ, ◌+◌, ◌<◌, ◌≤◌}
+use Prim.Native.Nat.{ℕ, ◌+◌, ◌≤◌}
 use mathlib.Core.Path.{◌≡◌, refl, sym, ap, ◌∙◌, subst}
 use mathlib.Core.Bool.{true, false}
-use mathlib.Core.List.{List, [], ◌∷◌, ◌++◌}
+use mathlib.Core.List.{List, ◌∷◌}
 use native.Mathlib.Omega.{arith}
-use native.Mathlib.Numerals.{add-one}
-use lib.ListN.{length, get_or, take, set, replicate, length-set}
-use lib.Seq.{length-take-le, take-suc, take-suc-set}
+use lib.ListN.{length, take}
+use lib.Seq.{length-take-le}
 use Rattle.words.specs.Words.{HeadFits, head_word}
+use Rattle.types.specs.Out.{Out}
 use Rattle.types.specs.Kind.{disc}
 use Rattle.types.specs.Node.{Polarity, members, node, kind, child_words_in, head_of, encode, encode_in, below, IsNode}
 use Rattle.types.specs.Arena.{Arena}
@@ -16,36 +16,9 @@ use Rattle.types.specs.declared.Counters.{Counters}
 use Rattle.types.proofs.KindNumbers.{disc_small}
 use Rattle.types.proofs.Addresses.{start_room}
 use Rattle.node_store.specs.Inner.Added.{Fresh, Interns}
-use Rattle.node_store.specs.declared.added.Interned.{Interned}
 use Rattle.simplification.proofs.Rebuilding.{list_well}
-use Rattle.member_lists.specs.Inner.Members.{Room, NodeWords, Filled, InternsList}
+use Rattle.member_lists.specs.Inner.Members.{NodeWords, Filled, InternsList}
 use Rattle.member_lists.proofs.Copying.{room_length}
-
--- ---- the words of a node: its head and i members are written
-pub record Written (head : ℕ) (items : List ℕ) (count : ℕ) (ws : List ℕ) (i : ℕ) : Type 0 where
-  pub room : Room items count
-  pub high : i ≤ count
-  pub long : length ws ≡ 65
-  pub is : take (i + 1) ws ≡ head ∷ take i items
-
-module _ {head : ℕ} {items : List ℕ} {count : ℕ} where
-  pub written_start : Room items count → Written head items count (set (replicate 65 0) 0 head) 0
-  written_start R = record { room = R; high = omega arith; long = refl; is = refl }
-
-  module _ {ws : List ℕ} {i : ℕ} (W : Written head items count ws i) where
-    pub written_more : i < count → Written head items count (set ws (i + 1) (get_or items i 0)) (i + 1)
-    written_more l = record {
-      room = W.room;
-      high = omega arith;
-      long = length-set ws (i + 1) (get_or items i 0) ∙ W.long;
-      is = ap (λ (j : ℕ). take j (set ws (i + 1) (get_or items i 0))) (add-one (i + 1))
-          ∙ take-suc-set ws (i + 1) (get_or items i 0) (omega (arith, W.long, W.room.few))
-          ∙ ap (λ (l : List ℕ). l ++ (get_or items i 0 ∷ [])) W.is
-          ∙ ap (λ (l : List ℕ). head ∷ l) (sym (take-suc items i 0 (omega (arith, W.room.long, W.room.few))) ∙ ap (λ (j : ℕ). take j items) (sym (add-one i)));
-    }
-
-    pub written_done : count ≤ i → NodeWords head items count ws
-    written_done h = let e : i ≡ count = omega (arith, W.high) in record { is = rw e at W.is; long = W.long }
 
 -- ---- several members
 list_encode : (k : Polarity) (l : List ℕ) → encode (node (members k) l) ≡ head_word (disc (kind (members k))) false false (length l) ∷ l
@@ -85,5 +58,5 @@ module _ {w s : List ℕ} {c : Counters} {number : ℕ} {items : List ℕ} {coun
       is = list_node G.lent.table G.lent.view G.side G.lent.holds G.kind_is;
     }
 
-    pub list_interned : {w' s' : List ℕ} {r : Interned} → Interns w s c (take (count + 1) ws) w' s' r → InternsList w s c number items count w' s' r
+    pub list_interned : {w' s' : List ℕ} {r : Out (ℕ × Counters)} → Interns w s c (take (count + 1) ws) w' s' r → InternsList w s c number items count w' s' r
     list_interned I = record { is = λ table a k H q. I.is table a (node (members k) (take count items)) H (list_node table a k H q) }

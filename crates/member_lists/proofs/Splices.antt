@@ -5,6 +5,9 @@ use mathlib.Core.List.{List, [], ◌∷◌, ◌++◌, append-nil, append_assoc, 
 use native.Mathlib.Omega.{arith}
 use lib.ListN.{length, get_or, take, drop}
 use lib.Seq.{take_all}
+use Rattle.std.specs.Prelude.{Ok, Err}
+use Rattle.types.specs.declared.refusal.Refusal.{Refusal}
+use Rattle.types.specs.Out.{Out}
 use Rattle.types.specs.Kind.{disc}
 use Rattle.types.specs.Node.{Polarity, members, bound, Node, tag, kind, children, encode}
 use Rattle.types.specs.Arena.{Arena, at}
@@ -20,8 +23,6 @@ use Rattle.walks.proofs.Marks.{root_small}
 use Rattle.simplification.specs.Pass.{splice}
 use Rattle.simplification.proofs.Answers.{same_tag_if, same_tag_not}
 use Rattle.member_lists.specs.Inner.Members.{NeutralOf, Adding, Grows, Gathering, Splicing, Flattening, Flattens}
-use Rattle.member_lists.specs.declared.growing.Grown.{Grown}
-use Rattle.member_lists.specs.declared.growing.Grown.TheVariants as grown
 use Rattle.member_lists.proofs.BoundKinds.{list_told, bound_told}
 use Rattle.member_lists.proofs.Copying.{grows_none, grows_then, grows_full, parted, next_part}
 
@@ -51,12 +52,12 @@ pub splicing_adds : {w s : List ℕ} {c : Counters} {n : ℕ} {items : List ℕ}
 splicing_adds S = record { growing = S.growing; inside = root_small S.range }
 
 module _ {w s : List ℕ} {c : Counters} {n : ℕ} {items : List ℕ} {count : ℕ} {met : List ℕ} (S : Splicing w s c n items count met) {number : ℕ} where
-  brought : {items' met' : List ℕ} {r : Grown} → ((table : ℕ) (a : Arena) (k : Polarity) → Holds table w s c a → number ≡ disc (kind (members k)) → Grows items count met (brings k a n) items' met' r)
+  brought : {items' met' : List ℕ} {r : Out ℕ} → ((table : ℕ) (a : Arena) (k : Polarity) → Holds table w s c a → number ≡ disc (kind (members k)) → Grows items count met (brings k a n) items' met' r)
       → Flattens w s c number (n ∷ []) items count met items' met' r
   brought {items'} {met'} {r} f = record { is = λ table a k H e. subst (λ (xs : List ℕ). Grows items count met xs items' met' r) (sym (one_brings (brings k a) n)) (f table a k H e) }
 
   module _ {own : ℕ} (K : KindAt w s c n own) where
-    pub brings_members : own ≡ number → {m : ℕ} → m ≡ n → {ws items' met' : List ℕ} {r : Grown} → NodeAt w s c m ws → Grows items count met (children_in ws) items' met' r → Flattens w s c number (n ∷ []) items count met items' met' r
+    pub brings_members : own ≡ number → {m : ℕ} → m ≡ n → {ws items' met' : List ℕ} {r : Out ℕ} → NodeAt w s c m ws → Grows items count met (children_in ws) items' met' r → Flattens w s c number (n ∷ []) items count met items' met' r
     brings_members q e {ws} {items'} {met'} {r} N G = brought (λ table a k H p.
         let t : tag (at a n) ≡ members k = list_told (tag (at a n)) k (sym (K.is table a H) ∙ q ∙ p) in
         let l : n < length a = omega (arith, S.range.inside, H.nodes) in
@@ -68,12 +69,12 @@ module _ {w s : List ℕ} {c : Counters} {n : ℕ} {items : List ℕ} {count : �
       other_kind : (table : ℕ) (a : Arena) (k : Polarity) → Holds table w s c a → number ≡ disc (kind (members k)) → tag (at a n) ≡ members k → ⊥
       other_kind table a k H p t = f (K.is table a H ∙ ap (λ u. disc (kind u)) t ∙ sym p)
 
-      pub brings_nothing : own ≡ d → Flattens w s c number (n ∷ []) items count met items met (grown.Count count)
+      pub brings_nothing : own ≡ d → Flattens w s c number (n ∷ []) items count met items met (Ok count)
       brings_nothing q = brought (λ table a k H p.
           let t : tag (at a n) ≡ bound k = bound_told (tag (at a n)) k (sym (K.is table a H) ∙ q ∙ D.is k p) in
-          subst (λ (xs : List ℕ). Grows items count met xs items met (grown.Count count)) (sym (splice_neutral k n (at a n) (other_kind table a k H p) t)) (grows_none S.growing))
+          subst (λ (xs : List ℕ). Grows items count met xs items met (Ok count)) (sym (splice_neutral k n (at a n) (other_kind table a k H p) t)) (grows_none S.growing))
 
-      pub brings_itself : (own ≡ d → ⊥) → {items' met' : List ℕ} {r : Grown} → Grows items count met (n ∷ []) items' met' r → Flattens w s c number (n ∷ []) items count met items' met' r
+      pub brings_itself : (own ≡ d → ⊥) → {items' met' : List ℕ} {r : Out ℕ} → Grows items count met (n ∷ []) items' met' r → Flattens w s c number (n ∷ []) items count met items' met' r
       brings_itself g {items'} {met'} {r} G = brought (λ table a k H p.
           let u : tag (at a n) ≡ bound k → ⊥ = λ t. g (K.is table a H ∙ ap (λ u. disc (kind u)) t ∙ sym (D.is k p)) in
           subst (λ (xs : List ℕ). Grows items count met xs items' met' r) (sym (splice_other k n (at a n) (other_kind table a k H p) u)) G)
@@ -88,7 +89,7 @@ brings_append f (x ∷ xs) ys = ap (λ (l : List ℕ). f x ++ l) (brings_append 
 pub record Passed (w s : List ℕ) (c : Counters) (number : ℕ) (ms items₀ met₀ items : List ℕ) (held : ℕ) (met : List ℕ) (i : ℕ) : Type 0 where
   pub gathering : Gathering w s c number ms
   pub high : i ≤ length ms
-  pub flattens : Flattens w s c number (take i ms) items₀ 0 met₀ items met (grown.Count held)
+  pub flattens : Flattens w s c number (take i ms) items₀ 0 met₀ items met (Ok held)
 
 module _ {w s : List ℕ} {c : Counters} {number : ℕ} {ms items₀ met₀ : List ℕ} where
   pub passed_start : Flattening w s c number ms items₀ met₀ → Passed w s c number ms items₀ met₀ items₀ 0 met₀ 0
@@ -108,27 +109,27 @@ module _ {w s : List ℕ} {c : Counters} {number : ℕ} {ms items₀ met₀ : Li
           growing = (P.flattens.is G.lent.table G.lent.view G.side G.lent.holds G.kind_is).growing held refl;
         }
 
-    pub passed_done : length ms ≤ i → Flattens w s c number ms items₀ 0 met₀ items met (grown.Count held)
+    pub passed_done : length ms ≤ i → Flattens w s c number ms items₀ 0 met₀ items met (Ok held)
     passed_done h = rw (take_all i ms h) at P.flattens
 
-    module _ (l : i < length ms) {items' met' : List ℕ} {r : Grown} (F : Flattens w s c number (get_or ms i 0 ∷ []) items held met items' met' r) where
+    module _ (l : i < length ms) {items' met' : List ℕ} {r : Out ℕ} (F : Flattens w s c number (get_or ms i 0 ∷ []) items held met items' met' r) where
       both : Flattens w s c number (take i ms ++ (get_or ms i 0 ∷ [])) items₀ 0 met₀ items' met' r
       both = record {
         is = λ table a k H e.
             subst (λ (xs : List ℕ). Grows items₀ 0 met₀ xs items' met' r) (sym (brings_append (brings k a) (take i ms) (get_or ms i 0 ∷ []))) (grows_then (P.flattens.is table a k H e) (F.is table a k H e));
       }
 
-      pub passed_more : {next : ℕ} → r ≡ grown.Count next → Passed w s c number ms items₀ met₀ items' next met' (i + 1)
+      pub passed_more : {next : ℕ} → r ≡ Ok next → Passed w s c number ms items₀ met₀ items' next met' (i + 1)
       passed_more {next} q = record {
         gathering = P.gathering;
         high = omega arith;
-        flattens = subst (λ (xs : List ℕ). Flattens w s c number xs items₀ 0 met₀ items' met' (grown.Count next)) (sym (next_part ms i l)) (rw q at both);
+        flattens = subst (λ (xs : List ℕ). Flattens w s c number xs items₀ 0 met₀ items' met' (Ok next)) (sym (next_part ms i l)) (rw q at both);
       }
 
-      pub passed_full : r ≡ grown.Full → Flattens w s c number ms items₀ 0 met₀ items' met' grown.Full
-      passed_full q = record {
+      pub passed_full : {v : Refusal} → r ≡ Err v → Flattens w s c number ms items₀ 0 met₀ items' met' (Err v)
+      passed_full {v} q = record {
         is = λ table a k H e.
-            subst (λ (xs : List ℕ). Grows items₀ 0 met₀ (flat_map (brings k a) xs) items' met' grown.Full) (sym (parted ms i l))
-            (subst (λ (xs : List ℕ). Grows items₀ 0 met₀ xs items' met' grown.Full) (sym (brings_append (brings k a) (take i ms ++ (get_or ms i 0 ∷ [])) (drop (suc i) ms)))
+            subst (λ (xs : List ℕ). Grows items₀ 0 met₀ (flat_map (brings k a) xs) items' met' (Err v)) (sym (parted ms i l))
+            (subst (λ (xs : List ℕ). Grows items₀ 0 met₀ xs items' met' (Err v)) (sym (brings_append (brings k a) (take i ms ++ (get_or ms i 0 ∷ [])) (drop (suc i) ms)))
             (grows_full (flat_map (brings k a) (drop (suc i) ms)) ((rw q at both).is table a k H e)));
       }

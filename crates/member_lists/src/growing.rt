@@ -7,31 +7,28 @@ use crate::bounds::{kind_of, neutral};
 use bits::{put, test};
 use node_store::children::child_words;
 use node_store::stored::node_at;
-use types::Counters;
 use types::arc_ty::{child, wide};
+use types::{Counters, Refusal};
 
-// How many members the list has, or that a 65th has no room.
-#[derive(Clone, Copy)]
-pub enum Grown {
-    Count(usize),
-    Full,
-}
-
-// Appends n, unless its bit says that it is there.
-pub fn append(items: &mut [u32; 64], met: &mut [u64; 64], count: usize, n: u32) -> Grown
+// Appends n, unless its bit says that it is there, and says how many members there are then; a 65th is refused.
+pub fn append(
+    items: &mut [u32; 64],
+    met: &mut [u64; 64],
+    count: usize,
+    n: u32,
+) -> Result<usize, Refusal>
     requires { Adding items.old count met.old n }
     ensures { Grows items.old count met.old (n ∷ []) items.new met.new result }
 {
     if test(met, n) {
-        return Grown::Count(count);
+        return Ok(count);
     }
     if count < 64 {
         put(met, n);
         items[count] = n;
-        let next = count + 1;
-        return Grown::Count(next);
+        return Ok(count + 1);
     }
-    Grown::Full
+    Err(Refusal::TooManyMembers)
 }
 
 // Appends the children in the words of a node.
@@ -40,23 +37,17 @@ pub fn append_children(
     items: &mut [u32; 64],
     met: &mut [u64; 64],
     count: usize,
-) -> Grown
+) -> Result<usize, Refusal>
     requires { Growing items.old count met.old }
     ensures { Grows items.old count met.old (children_in node.now) items.new
         met.new result }
 {
     let body = child_words(node);
     let mut held = count;
-    let mut i = 0;
-    while i < body.len() {
-        let grown = append(items, met, held, child(body[i]));
-        let Grown::Count(next) = grown else {
-            return Grown::Full;
-        };
-        held = next;
-        i += 1;
+    for word in body {
+        held = append(items, met, held, child(*word))?;
     }
-    Grown::Count(held)
+    Ok(held)
 }
 
 // Appends what the member n brings to a list of a kind: a list of that kind its own members, the neutral element nothing, any
@@ -70,7 +61,7 @@ fn splice(
     items: &mut [u32; 64],
     met: &mut [u64; 64],
     count: usize,
-) -> Grown
+) -> Result<usize, Refusal>
     requires { Splicing words.now starts.now c n items.old count met.old }
     ensures { Flattens words.now starts.now c kind (n ∷ []) items.old count met.old
         items.new met.new result }
@@ -80,7 +71,7 @@ fn splice(
         return append_children(node_at(words, starts, c, wide(n)), items, met, count);
     }
     if own == neutral(kind) {
-        return Grown::Count(count);
+        return Ok(count);
     }
     append(items, met, count, n)
 }
@@ -94,20 +85,14 @@ pub(crate) fn flatten(
     members: &[u32],
     items: &mut [u32; 64],
     met: &mut [u64; 64],
-) -> Grown
+) -> Result<usize, Refusal>
     requires { Flattening words.now starts.now c kind members.now items.old met.old }
     ensures { Flattens words.now starts.now c kind members.now items.old 0
         met.old items.new met.new result }
 {
     let mut held = 0;
-    let mut i = 0;
-    while i < members.len() {
-        let grown = splice(words, starts, c, kind, members[i], items, met, held);
-        let Grown::Count(next) = grown else {
-            return Grown::Full;
-        };
-        held = next;
-        i += 1;
+    for n in members {
+        held = splice(words, starts, c, kind, *n, items, met, held)?;
     }
-    Grown::Count(held)
+    Ok(held)
 }

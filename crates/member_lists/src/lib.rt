@@ -11,24 +11,16 @@ ghost use Rattle.member_lists.specs.Inner.Members.{ClosesOpen};
 ghost use Rattle.member_lists.specs.Inner.Closed.{Closing, Closes, CoversClosed};
 
 use crate::bounds::{deciding, kind_of};
-use crate::growing::{Grown, flatten};
+use crate::growing::flatten;
 use node_filter::intern_near;
-use node_store::added::Interned;
-use types::Counters;
 use types::arc_ty::Head;
+use types::{Counters, Refusal};
 
 // A list of at most 64 node numbers with its length.
 #[derive(Clone, Copy)]
 pub struct Members {
     pub items: [u32; 64],
     pub count: usize,
-}
-
-// What the list becomes, or that nothing is left of it.
-#[derive(Clone, Copy)]
-pub enum Closed {
-    Done(Interned),
-    Empty,
 }
 
 // The first `count` items, or all of them where there are no more.
@@ -42,28 +34,18 @@ fn first_items(items: &[u32; 65], count: usize) -> &[u32]
     all
 }
 
-// The member that decides a list, if there is one.
-#[derive(Clone, Copy)]
-enum Decision {
-    By(u32),
-    Open,
-}
-
 // Which member decides a list of a kind.
-fn decider(words: &[u32], starts: &[u32], c: Counters, kind: u32, members: &[u32]) -> Decision
+fn decider(words: &[u32], starts: &[u32], c: Counters, kind: u32, members: &[u32]) -> Option<u32>
     requires { Gathering words.now starts.now c kind members.now }
     ensures { Decides words.now starts.now c kind members.now result }
 {
     let bound = deciding(kind);
-    let mut i = 0;
-    while i < members.len() {
-        let n = members[i];
-        if kind_of(words, starts, c, n) == bound {
-            return Decision::By(n);
+    for n in members {
+        if kind_of(words, starts, c, *n) == bound {
+            return Some(*n);
         }
-        i += 1;
     }
-    Decision::Open
+    None
 }
 
 // The words of a node: its head, then the members of the list.
@@ -73,11 +55,7 @@ fn node_words(head: u32, list: &Members) -> [u32; 65]
 {
     let mut node = [0u32; 65];
     node[0] = head;
-    let mut i = 0;
-    while i < list.count {
-        node[i + 1] = list.items[i];
-        i += 1;
-    }
+    node[1..=list.count].copy_from_slice(&list.items[..list.count]);
     node
 }
 
@@ -90,7 +68,7 @@ pub fn intern_list(
     list: &Members,
     near: u32,
     filter: &mut [u64; 2048],
-) -> Interned
+) -> Result<(u32, Counters), Refusal>
     requires filled { Filled words.old starts.old c kind list.now.items list.now.count }
     requires near_lt_nodes { near < c.nodes }
     requires covers_lent { CoversLent words.old starts.old c filter.old }
@@ -113,7 +91,7 @@ fn finish(
     list: &Members,
     near: u32,
     filter: &mut [u64; 2048],
-) -> Closed
+) -> Option<Result<(u32, Counters), Refusal>>
     requires listing { Listing words.old starts.old c kind list.now.items list.now.count }
     requires near_lt_nodes { near < c.nodes }
     requires covers_lent { CoversLent words.old starts.old c filter.old }
@@ -122,12 +100,12 @@ fn finish(
     ensures covers_closed { CoversClosed words.new starts.new c result filter.new }
 {
     if list.count == 0 {
-        return Closed::Empty;
+        return None;
     }
     if list.count == 1 {
-        return Closed::Done(Interned::Node(list.items[0], c));
+        return Some(Ok((list.items[0], c)));
     }
-    Closed::Done(intern_list(words, starts, c, kind, list, near, filter))
+    Some(intern_list(words, starts, c, kind, list, near, filter))
 }
 
 // What stands for the list that the members make, if none of them decides it. As LLVM builds it, it and its lists stay out of the
@@ -141,7 +119,7 @@ fn close_open(
     members: &[u32],
     near: u32,
     filter: &mut [u64; 2048],
-) -> Closed
+) -> Option<Result<(u32, Counters), Refusal>>
     requires gathering { Gathering words.old starts.old c kind members.now }
     requires near_lt_nodes { near < c.nodes }
     requires covers_lent { CoversLent words.old starts.old c filter.old }
@@ -154,12 +132,13 @@ fn close_open(
         count: 0,
     };
     let mut met = [0u64; 64];
-    let grown = flatten(words, starts, c, kind, members, &mut list.items, &mut met);
-    let Grown::Count(count) = grown else {
-        return Closed::Done(Interned::Refused(8));
-    };
-    list.count = count;
-    finish(words, starts, c, kind, &list, near, filter)
+    match flatten(words, starts, c, kind, members, &mut list.items, &mut met) {
+        Ok(count) => {
+            list.count = count;
+            finish(words, starts, c, kind, &list, near, filter)
+        }
+        Err(refusal) => Some(Err(refusal)),
+    }
 }
 
 // What becomes of a member list of a kind: a member that decides it; else its members, spliced one level, without the neutral
@@ -173,7 +152,7 @@ pub fn close_list(
     count: usize,
     near: u32,
     filter: &mut [u64; 2048],
-) -> Closed
+) -> Option<Result<(u32, Counters), Refusal>>
     requires closing { Closing words.old starts.old c kind items.now count }
     requires near_lt_nodes { near < c.nodes }
     requires covers_lent { CoversLent words.old starts.old c filter.old }
@@ -182,9 +161,8 @@ pub fn close_list(
     ensures covers_closed { CoversClosed words.new starts.new c result filter.new }
 {
     let members = first_items(items, count);
-    let decided = decider(words, starts, c, kind, members);
-    if let Decision::By(n) = decided {
-        return Closed::Done(Interned::Node(n, c));
+    if let Some(n) = decider(words, starts, c, kind, members) {
+        return Some(Ok((n, c)));
     }
     close_open(words, starts, c, kind, members, near, filter)
 }

@@ -1,6 +1,6 @@
 -- A member is inserted at its place, and so are the members one after another.
 use Prim.Native.Nat.{ℕ, suc, ◌+◌, ◌<◌, ◌≤◌}
-use mathlib.Core.Path.{◌≡◌, refl, sym, ap, ◌∙◌, subst}
+use mathlib.Core.Path.{◌≡◌, refl, sym, ap, ◌∙◌}
 use mathlib.Core.Bool.{true}
 use mathlib.Core.List.{List, ◌∷◌, ◌++◌}
 use native.Mathlib.Omega.{arith}
@@ -13,19 +13,13 @@ use Rattle.types.specs.Memory.{Holds}
 use Rattle.types.specs.declared.Counters.{Counters}
 use Rattle.types.proofs.Lists.{below_at}
 use Rattle.member_sorting.specs.Sort.{insert_member, sort_onto, sort}
-use Rattle.member_sorting.specs.Inner.{Placing, PlaceOf, Gap, OpensGap, Inserting, Inserts, Sorting, Sorts}
+use Rattle.member_sorting.specs.Inner.{PlaceOf, Gap, OpensGap, Inserting, Inserts, Sorting, Sorts}
 use Rattle.member_sorting.proofs.Sorted.{insert_below}
 
 -- ---- one member
 module _ {w s : List ℕ} {c : Counters} {m : ℕ} {items : List ℕ} {count : ℕ} (I : Inserting w s c m items count) where
   inserting_room : count ≤ length items
   inserting_room = omega (arith, I.long, I.room)
-
-  pub inserting_cut : count ≡ length (take count items)
-  inserting_cut = sym (length-take-le count items inserting_room)
-
-  pub inserting_placing : {ms : List ℕ} → ms ≡ take count items → Placing w s c m ms
-  inserting_placing e = subst (Placing w s c m) (sym e) I.placing
 
   module _ {place : ℕ} {ms : List ℕ} (e : ms ≡ take count items) (P : PlaceOf w s c m ms place) where
     count_is : length ms ≡ count

@@ -1,6 +1,6 @@
 -- The place of a member: the members passed stay in front of it, and it is inserted among the rest.
 use Prim.Native.Nat.{ℕ, suc, ◌+◌, ◌<◌, ◌≤◌}
-use mathlib.Core.Path.{◌≡◌, refl, sym, ap, ◌∙◌}
+use mathlib.Core.Path.{◌≡◌, sym, ap, ◌∙◌}
 use mathlib.Core.Bool.{Bool, true, false}
 use mathlib.Core.List.{List, [], ◌∷◌, ◌++◌, append_assoc}
 use native.Mathlib.Omega.{arith}
@@ -11,30 +11,20 @@ use Rattle.types.specs.Arena.{Arena}
 use Rattle.types.specs.Memory.{Holds}
 use Rattle.types.specs.declared.Counters.{Counters}
 use Rattle.types.specs.Order.{is_less}
-use Rattle.types.specs.declared.Ordering.{Ordering}
-use Rattle.types.specs.declared.Ordering.TheVariants.{Less, Equal, Greater}
+use Rattle.std.specs.declared.cmp.Ordering.{Ordering}
+use Rattle.std.specs.Ordering.{is_lt}
+use Rattle.types.proofs.Orders.{less_is}
 use Rattle.types.proofs.Lists.{below_at}
 use Rattle.node_store.specs.Inner.Stored.{InRange, Ordered}
 use Rattle.member_sorting.specs.Sort.{before, insert_member}
 use Rattle.member_sorting.specs.Inner.{ComesBefore, Placing, PlaceOf}
 
 -- ---- which of two comes first
-pub range_of : {w s : List ℕ} {c : Counters} {m n : ℕ} → n ≡ m → InRange w s c m → InRange w s c n
-range_of e R = record { lent = R.lent; inside = omega (arith, e, R.inside) }
 
 module _ {w s : List ℕ} {c : Counters} {m n x y : ℕ} (p : x ≡ m) (q : y ≡ n) {o : Ordering} (O : Ordered w s c x y o) where
-  told : {b : Bool} → b ≡ is_less o → ComesBefore w s c m n b
+  pub told : {b : Bool} → b ≡ is_lt o → ComesBefore w s c m n b
   unfolding before
-  told e = record { is = λ table a H. e ∙ ap is_less (O.is table a H) ∙ (λ i. before a (p i) (q i)) }
-
-  pub told_less : o ≡ Less → ComesBefore w s c m n true
-  told_less e = told (ap is_less (sym e))
-
-  pub told_equal : o ≡ Equal → ComesBefore w s c m n false
-  told_equal e = told (ap is_less (sym e))
-
-  pub told_greater : o ≡ Greater → ComesBefore w s c m n false
-  told_greater e = told (ap is_less (sym e))
+  told e = record { is = λ table a H. e ∙ less_is o ∙ ap is_less (O.is table a H) ∙ (λ i. before a (p i) (q i)) }
 
 -- ---- one member
 insert_here : (a : Arena) (m x : ℕ) (xs : List ℕ) → before a m x ≡ true → insert_member a m (x ∷ xs) ≡ m ∷ x ∷ xs
@@ -52,21 +42,18 @@ pub record Passed (w s : List ℕ) (c : Counters) (m : ℕ) (ms : List ℕ) (i :
   pub is : (table : ℕ) (a : Arena) → Holds table w s c a → insert_member a m ms ≡ take i ms ++ insert_member a m (drop i ms)
 
 module _ {w s : List ℕ} {c : Counters} {m : ℕ} {ms : List ℕ} where
-  pub passed_start : Placing w s c m ms → Passed w s c m ms 0
-  passed_start P = record { placing = P; high = omega arith; is = λ table a H. refl }
-
   module _ {i : ℕ} (P : Passed w s c m ms i) where
-    pub passed_range : InRange w s c m
-    passed_range = P.placing.range
-
     pub passed_next : i < length ms → InRange w s c (get_or ms i 0)
     passed_next l = record { lent = P.placing.range.lent; inside = below_at c.nodes ms P.placing.low i l }
 
-    pub passed_done : length ms ≤ i → PlaceOf w s c m ms i
+    pub passed_done : length ms ≤ i → PlaceOf w s c m ms (length ms)
     unfolding insert_member
-    passed_done h = record {
-      few = P.high;
-      is = λ table a H. let none = drop_of_length-le ms {i = i} h in P.is table a H ∙ ap (λ (l : List ℕ). take i ms ++ insert_member a m l) none ∙ ap (λ (l : List ℕ). take i ms ++ m ∷ l) (sym none);
+    passed_done h = let e : i ≡ length ms = omega (arith, h, P.high) in record {
+      few = omega arith;
+      is = λ table a H.
+          let none = drop_of_length-le ms {i = i} h in
+          P.is table a H ∙ ap (λ (l : List ℕ). take i ms ++ insert_member a m l) none ∙ ap (λ (l : List ℕ). take i ms ++ m ∷ l) (sym none)
+          ∙ ap (λ (k : ℕ). take k ms ++ m ∷ drop k ms) e;
     }
 
     module _ (l : i < length ms) {b : Bool} (B : ComesBefore w s c m (get_or ms i 0) b) where

@@ -15,7 +15,7 @@ use borrow.Author.Tests.{lt-ltb}
 use Rattle.types.specs.Node.{below}
 use Rattle.types.specs.Arena.{Arena, at, Ext}
 use Rattle.types.specs.Order.{is_less, reversed}
-use Rattle.types.specs.declared.Ordering.{Ordering}
+use Rattle.std.specs.declared.cmp.Ordering.{Ordering}
 use Rattle.types.proofs.Lists.{below_cons}
 use Rattle.types.proofs.Growth.{ext_at}
 use Rattle.types.proofs.Tests.{true_false}

@@ -2,7 +2,7 @@
 use Rattle.std.specs.Prelude.{ℕ, ◌≡◌, length}
 use mathlib.Core.List.{List, [], ◌∷◌, Memᴰ as Mem}
 use Rattle.types.specs.Arena.{Arena, at}
-use Rattle.types.specs.declared.Ordering.TheVariants.{Greater}
+use Rattle.std.specs.declared.cmp.Ordering.TheVariants.{Greater}
 use Rattle.node_order.specs.NodeOrder.{node_order}
 use Rattle.member_sorting.specs.Sort.{sort}
 

@@ -5,8 +5,8 @@ ghost use Rattle.node_store.specs.Inner.Stored.{InRange};
 ghost use Rattle.member_sorting.specs.Inner.{ComesBefore, Placing, PlaceOf, Gap, OpensGap, Inserting, Inserts, Sorting, Sorts};
 
 use node_store::stored::order_of;
+use types::Counters;
 use types::arc_ty::wide;
-use types::{Counters, Ordering};
 
 // Whether node m comes before node n.
 fn comes_before(words: &[u32], starts: &[u32], c: Counters, m: u32, n: u32) -> bool
@@ -14,12 +14,7 @@ fn comes_before(words: &[u32], starts: &[u32], c: Counters, m: u32, n: u32) -> b
     requires in_range_2 { InRange words.now starts.now c n }
     ensures { ComesBefore words.now starts.now c m n result }
 {
-    let order = order_of(words, starts, c, wide(m), wide(n));
-    match order {
-        Ordering::Less => true,
-        Ordering::Equal => false,
-        Ordering::Greater => false,
-    }
+    order_of(words, starts, c, wide(m), wide(n)).is_lt()
 }
 
 // The place of the first member that m comes before.
@@ -27,14 +22,12 @@ fn place_of(words: &[u32], starts: &[u32], c: Counters, m: u32, members: &[u32])
     requires { Placing words.now starts.now c m members.now }
     ensures { PlaceOf words.now starts.now c m members.now result }
 {
-    let mut i = 0;
-    while i < members.len() {
-        if comes_before(words, starts, c, m, members[i]) {
+    for (i, n) in members.iter().enumerate() {
+        if comes_before(words, starts, c, m, *n) {
             return i;
         }
-        i += 1;
     }
-    i
+    members.len()
 }
 
 // Makes room at a place among the first `count` items.
@@ -42,11 +35,7 @@ fn open_gap(items: &mut [u32; 64], place: usize, count: usize)
     requires { Gap items.old place count }
     ensures { OpensGap items.old place count items.new }
 {
-    let mut i = count;
-    while i > place {
-        items[i] = items[i - 1];
-        i -= 1;
-    }
+    items.copy_within(place..count, place + 1);
 }
 
 // Inserts m among the first `count` items.
@@ -78,9 +67,7 @@ pub fn sort_members(
     requires { Sorting words.now starts.now c members.now items.old }
     ensures { Sorts words.now starts.now c members.now items.new }
 {
-    let mut i = 0;
-    while i < members.len() {
-        insert_member(words, starts, c, members[i], items, i);
-        i += 1;
+    for (i, m) in members.iter().enumerate() {
+        insert_member(words, starts, c, *m, items, i);
     }
 }

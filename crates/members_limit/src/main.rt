@@ -3,14 +3,13 @@
 // (compare/reference/src/bin/members_limit.rs).
 #![tactic(auto)]
 
-ghost use Rattle.std.specs.Prelude.{◌≤◌};
-
+use answer_writing::answer::{Answer, Both, Good, stored};
 use arena::intern;
-use node_store::added::Interned;
+use deep_types::head;
 use simplify::{Simplified, simplify};
 use std::io;
-use types::Counters;
 use types::arc_ty::Head;
+use types::{Counters, Refusal};
 
 // The nodes that a root has as members, by number; the root is the next.
 const BOUND: u32 = 65;
@@ -25,185 +24,104 @@ const TO_65: u32 = 71;
 
 const ROOT: u32 = 72;
 
-// How much is lent besides what the type fills.
+// The nodes of a type, in memory that has room for more.
 #[derive(Clone, Copy)]
-struct Room {
-    words: usize,
-    starts: usize,
-}
-
-// Prints what a call answered.
-fn tell(rt: &impl Print, r: Simplified) -> io::Result<()> {
-    match r {
-        Simplified::Type(root, passes, c) => {
-            print!(rt; ": ok {root} {passes}")?;
-            println!(rt; " {} {}", c.nodes, c.words)
-        }
-        Simplified::Refused(number) => println!(rt; ": refused {number}"),
-    }
-}
-
-fn head(kind: u32, count: usize) -> u32 {
-    if kind <= Head::NEG {
-        if count <= 64 {
-            return Head::new(kind, false, false, count).word;
-        }
-    }
-    0
-}
-
-// One more node.
-fn put(words: &mut [u32], starts: &mut [u32], c: Counters, node: &[u32]) -> Counters {
-    let r = intern(&[], words, starts, c, node);
-    let Interned::Node(_, d) = r else {
-        return c;
-    };
-    d
-}
-
-// int, the list of int, the list of that, and so on: nodes 0 to 64.
-fn put_members(words: &mut [u32], starts: &mut [u32]) -> Counters {
-    let none = Counters { nodes: 0, words: 0 };
-    let mut c = put(words, starts, none, &[head(Head::PRIMITIVE, 1), 2]);
-    let list = head(Head::LIST, 1);
-    let mut n: u32 = 0;
-    while n < 64 {
-        c = put(words, starts, c, &[list, n]);
-        n += 1;
-    }
-    c
-}
-
-// Makes the nodes from one on the members of a list, whose head is there.
-fn number(node: &mut [u32], from: u32) {
-    let mut n = from;
-    let mut i = 1;
-    while i < node.len() {
-        if n >= 4096 {
-            return;
-        }
-        node[i] = n;
-        n += 1;
-        i += 1;
-    }
+struct Nodes {
+    words: [u32; 512],
+    starts: [u32; 128],
+    counters: Counters,
 }
 
 // The bound that decides a list of a kind.
 fn bound(kind: u32) -> u32 {
     if kind == Head::UNION {
-        return Head::TOP;
-    }
-    Head::BOTTOM
-}
-
-// The members, the bound and a variable.
-fn put_leaves(words: &mut [u32], starts: &mut [u32], kind: u32) -> Counters {
-    let c = put_members(words, starts);
-    let c = put(words, starts, c, &[head(bound(kind), 0)]);
-    put(words, starts, c, &[head(Head::TY_VAR, 1), 0])
-}
-
-// These, and a node that becomes `Neg` of int, which isn't there.
-fn put_single(words: &mut [u32], starts: &mut [u32], kind: u32) -> Counters {
-    let c = put_leaves(words, starts, kind);
-    let c = put(words, starts, c, &[head(kind, 2), 66, 0]);
-    put(words, starts, c, &[head(Head::NEG, 1), 67])
-}
-
-// These, and lists of members: the first has 40, with the second there are 64 different ones, with the third 65.
-fn put_types(words: &mut [u32], starts: &mut [u32], kind: u32) -> Counters {
-    let mut first = [head(kind, 40); 41];
-    let mut to_64 = [head(kind, 34); 35];
-    let mut to_65 = [head(kind, 35); 36];
-    number(&mut first, 0);
-    number(&mut to_64, 30);
-    number(&mut to_65, 30);
-    let c = put_single(words, starts, kind);
-    let c = put(words, starts, c, &first);
-    let c = put(words, starts, c, &to_64);
-    put(words, starts, c, &to_65)
-}
-
-// So many more than are used, but no more than all.
-fn lent(used: usize, more: usize, all: usize) -> usize
-    ensures { result ≤ all }
-{
-    if all <= used {
-        return all;
-    }
-    if all - used <= more {
-        return all;
-    }
-    used + more
-}
-
-// The call, with no more memory than this room.
-fn simplify_in(words: &mut [u32], starts: &mut [u32], c: Counters, room: Room) -> Simplified {
-    let m = lent(c.words, room.words, words.len());
-    let n = lent(c.nodes, room.starts, starts.len());
-    simplify(&[], &mut words[0..m], &mut starts[0..n], c, ROOT)
-}
-
-// One call on a type, in this room.
-fn try_simplify(rt: &impl Print, kind: u32, room: Room, root: &[u32]) -> io::Result<()> {
-    let mut words = [0u32; 512];
-    let mut starts = [0u32; 128];
-    let c = put_types(&mut words, &mut starts, kind);
-    let c = put(&mut words, &mut starts, c, root);
-    tell(rt, simplify_in(&mut words, &mut starts, c, room))
-}
-
-fn label(rt: &impl Print, kind: u32, members: &str, room: &str) -> io::Result<()> {
-    if kind == Head::UNION {
-        print!(rt; "union of ")?;
+        Head::TOP
     } else {
-        print!(rt; "intersection of ")?;
+        Head::BOTTOM
     }
-    print!(rt; "{members}{room}")
+}
+
+// A list with the members from one on, as many as fill N words with the head.
+fn list<const N: usize>(kind: u32, from: u32) -> [u32; N] {
+    let mut node = [head(kind, N.saturating_sub(1)); N];
+    for (member, n) in node.iter_mut().skip(1).zip(from..4096) {
+        *member = n;
+    }
+    node
+}
+
+impl Nodes {
+    // One more node.
+    fn put(&mut self, node: &[u32]) {
+        let stored = intern(&[], &mut self.words, &mut self.starts, self.counters, node);
+        if let Ok((_, after)) = stored {
+            self.counters = after;
+        }
+    }
+
+    // int, the list of int, the list of that, and so on: nodes 0 to 64.
+    fn put_members(&mut self) {
+        self.put(&[head(Head::PRIMITIVE, 1), 2]);
+        for n in 0..64 {
+            self.put(&[head(Head::LIST, 1), n]);
+        }
+    }
+
+    // The members, the bound and a variable; a node that becomes `Neg` of int, which isn't there; and lists of members: the first
+    // has 40, with the second there are 64 different ones, with the third 65.
+    fn new(kind: u32) -> Self {
+        let mut nodes = Nodes {
+            words: [0; 512],
+            starts: [0; 128],
+            counters: Counters { nodes: 0, words: 0 },
+        };
+        nodes.put_members();
+        nodes.put(&[head(bound(kind), 0)]);
+        nodes.put(&[head(Head::TY_VAR, 1), 0]);
+        nodes.put(&[head(kind, 2), 66, 0]);
+        nodes.put(&[head(Head::NEG, 1), 67]);
+        nodes.put(&list::<41>(kind, 0));
+        nodes.put(&list::<35>(kind, 30));
+        nodes.put(&list::<36>(kind, 30));
+        nodes
+    }
+
+    // The call, with so many words and starts besides what the type fills.
+    fn simplify(self, more_words: usize, more_starts: usize) -> Result<Simplified, Refusal> {
+        let c = self.counters;
+        let mut words = self.words;
+        let mut starts = self.starts;
+        let m = c.words.saturating_add(more_words).min(words.len());
+        let n = c.nodes.saturating_add(more_starts).min(starts.len());
+        simplify(&[], &mut words[..m], &mut starts[..n], c, ROOT)
+    }
+}
+
+// The root after, the passes made and the counters.
+fn told(after: Simplified) -> Good<Both<u32, Both<u32, Both<usize, usize>>>> {
+    Good(Both(after.root, stored((after.passes, after.counters))))
 }
 
 // The calls on a type: with room for all, for no word, for no start, and for one node of two words.
 fn in_each_room(rt: &impl Print, kind: u32, members: &str, root: &[u32]) -> io::Result<()> {
-    label(rt, kind, members, "")?;
-    try_simplify(
-        rt,
-        kind,
-        Room {
-            words: 80,
-            starts: 8,
-        },
-        root,
-    )?;
-    label(rt, kind, members, ", no word left")?;
-    try_simplify(
-        rt,
-        kind,
-        Room {
-            words: 0,
-            starts: 8,
-        },
-        root,
-    )?;
-    label(rt, kind, members, ", no start left")?;
-    try_simplify(
-        rt,
-        kind,
-        Room {
-            words: 80,
-            starts: 0,
-        },
-        root,
-    )?;
-    label(rt, kind, members, ", one node left")?;
-    try_simplify(
-        rt,
-        kind,
-        Room {
-            words: 2,
-            starts: 1,
-        },
-        root,
-    )
+    let list = if kind == Head::UNION {
+        "union"
+    } else {
+        "intersection"
+    };
+    let rooms = [
+        ("", 80, 8),
+        (", no word left", 0, 8),
+        (", no start left", 80, 0),
+        (", one node left", 2, 1),
+    ];
+    for (room, words, starts) in rooms {
+        let mut nodes = Nodes::new(kind);
+        nodes.put(root);
+        let answer = Answer(nodes.simplify(words, starts).map(told));
+        println!(rt; "{list} of {members}{room}: {answer}")?;
+    }
+    Ok(())
 }
 
 fn limits(rt: &impl Print, kind: u32) -> io::Result<()> {
@@ -216,12 +134,8 @@ fn limits(rt: &impl Print, kind: u32) -> io::Result<()> {
     in_each_room(rt, kind, "65 and the bound", &[three, FIRST, TO_65, BOUND])?;
     in_each_room(rt, kind, "a new one and 65", &[three, NEW, FIRST, TO_65])?;
     in_each_room(rt, kind, "65 and a new one", &[three, FIRST, TO_65, NEW])?;
-    in_each_room(
-        rt,
-        kind,
-        "a new one, the bound and 65",
-        &[four, NEW, BOUND, FIRST, TO_65],
-    )
+    let all = [four, NEW, BOUND, FIRST, TO_65];
+    in_each_room(rt, kind, "a new one, the bound and 65", &all)
 }
 
 fn main(rt: HostRuntime) -> io::Result<()> {

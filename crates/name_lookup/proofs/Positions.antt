@@ -9,11 +9,12 @@ use native.Mathlib.Nat.{le_of_suc-le-suc}
 use lib.ListN.{length, get_or, take, drop}
 use Rattle.words.specs.Words.{bit}
 use Rattle.words.specs.declared.Layout.TheVariants as layout
-use Rattle.types.specs.Out.{Out, ok, required}
+use Rattle.std.specs.Prelude.{Ok}
+use Rattle.types.specs.Out.{Out, required}
 use Rattle.types.specs.Same.{same_numbers}
 use Rattle.types.specs.Order.{is_less, reversed}
-use Rattle.types.specs.declared.Ordering.{Ordering}
-use Rattle.types.specs.declared.Ordering.TheVariants.{Less, Equal, Greater}
+use Rattle.std.specs.declared.cmp.Ordering.{Ordering}
+use Rattle.std.specs.declared.cmp.Ordering.TheVariants.{Less, Equal, Greater}
 use Rattle.types.proofs.Tests.{true_false, both, numbers_if, numbers_not}
 use Rattle.types.proofs.Orders.{less_equal, equal_greater, compared}
 use Rattle.names.specs.Table.{Name, name_order, rising, names_of}
@@ -164,19 +165,19 @@ module _ (t : List ℕ) (ns : List Name) (e : names_of t ≡ some ns) (x : Name)
   rises : rising ns ≡ true
   rises = (good_rules layout.New ns (names_of_is t ns e).good).rises
 
-  replied : find_reply t x ≡ ok (position ns x)
+  replied : find_reply t x ≡ Ok (position ns x)
   unfolding required
   replied = reply_of t x e
 
   -- what is answered is the position
-  answered : {p : Position} → find_reply t x ≡ ok p → position ns x ≡ p
-  answered {p} f = let g : ok (position ns x) ≡ ok p = sym replied ∙ f in cc
+  answered : {p : Position} → find_reply t x ≡ Ok p → position ns x ≡ p
+  answered {p} f = let g : Ok (position ns x) ≡ Ok p = sym replied ∙ f in cc
 
   answers : Answers t ns x
   answers = record {
-    finds = λ k I. replied ∙ ap {B = Out Position} ok (position_found x ns k rises I);
+    finds = λ k I. replied ∙ ap {B = Out Position} Ok (position_found x ns k rises I);
     found = λ k f. found k (answered f) (stands x ns rises);
-    misses = λ k B. replied ∙ ap {B = Out Position} ok (position_absent x ns k B);
+    misses = λ k B. replied ∙ ap {B = Out Position} Ok (position_absent x ns k B);
     missed = λ k f. missed k (answered f) (stands x ns rises);
   }
     where

@@ -1,13 +1,12 @@
 -- Where a text stands among the names of a table (02, A3).
-use Rattle.std.specs.Prelude.{ℕ, ◌+◌, Bool, false, ◌||◌, List, [], ◌∷◌}
+use Rattle.std.specs.Prelude.{ℕ, ◌+◌, Bool, false, ◌||◌, List, [], ◌∷◌, Ok}
 use Rattle.words.specs.Words.{bit}
-use Rattle.types.specs.Out.{Out, ok, refuse, required}
+use Rattle.types.specs.declared.refusal.Refusal.TheVariants as refusal
+use Rattle.types.specs.Out.{Out, required}
 use Rattle.types.specs.Same.{same_numbers}
 use Rattle.types.specs.Order.{is_less}
 use Rattle.names.specs.Table.{Name, name_order, names_of}
 use Rattle.name_lookup.specs.declared.Position.{Position}
-use Rattle.name_lookup.specs.declared.Lookup.{Lookup}
-use Rattle.name_lookup.specs.declared.Lookup.TheVariants.{At, Refused}
 
 -- is one of the names the text, byte for byte?
 unfoldable pub has_name : List Name → Name → Bool
@@ -30,9 +29,4 @@ position ns x = record { found = has_name ns x; place = names_before ns x }
 -- the text's position among the names of the table; 1 where the table breaks a rule (01, "Who can cause which number")
 unfoldable pub find_reply : List ℕ → Name → Out Position
 unfolding required names_of position
-find_reply t x = required 1 (names_of t) (λ (ns : List Name). ok (position ns x))
-
--- the enum's cases: the position; the number of a refusal
-abbrev pub lookup_out : Lookup → Out Position
-lookup_out (At p) = ok p
-lookup_out (Refused e) = refuse e
+find_reply t x = required refusal.BadTable (names_of t) (λ (ns : List Name). Ok (position ns x))

@@ -1,8 +1,7 @@
 -- What is shown of these definitions beyond the contracts.
-use Rattle.std.specs.Prelude.{ℕ, ◌/◌, ◌<◌, ◌≤◌, ◌≡◌, true, false, List, [], ◌∷◌, ◌++◌, map, length, get_or, take, drop}
+use Rattle.std.specs.Prelude.{ℕ, ◌/◌, ◌<◌, ◌≤◌, ◌≡◌, true, false, List, [], ◌∷◌, ◌++◌, map, length, get_or, take, drop, Ok}
 use Rattle.std.proofs.Math.Option.{some}
-use Rattle.types.specs.Out.{ok}
-use Rattle.types.specs.declared.Ordering.TheVariants.{Less, Greater}
+use Rattle.std.specs.declared.cmp.Ordering.TheVariants.{Less, Greater}
 use Rattle.names.specs.Table.{Name, name_order, names_of, rising}
 use Rattle.name_lookup.specs.Lookup.{find_reply}
 use Rattle.name_lookup.specs.Turns.{halvings}
@@ -22,10 +21,10 @@ pub record Between (ns : List Name) (x : Name) (k : ℕ) : Type 0 where
 -- the answer of a search for this text in a table of these names: it is found with number k exactly where name k is the text, and told to
 -- be absent with k names before it exactly where it stands between these and the others
 pub record Answers (t : List ℕ) (ns : List Name) (x : Name) : Type 0 where
-  pub finds : (k : ℕ) → IsName ns x k → find_reply t x ≡ ok (record { found = true; place = k })
-  pub found : (k : ℕ) → find_reply t x ≡ ok (record { found = true; place = k }) → IsName ns x k
-  pub misses : (k : ℕ) → Between ns x k → find_reply t x ≡ ok (record { found = false; place = k })
-  pub missed : (k : ℕ) → find_reply t x ≡ ok (record { found = false; place = k }) → Between ns x k
+  pub finds : (k : ℕ) → IsName ns x k → find_reply t x ≡ Ok (record { found = true; place = k })
+  pub found : (k : ℕ) → find_reply t x ≡ Ok (record { found = true; place = k }) → IsName ns x k
+  pub misses : (k : ℕ) → Between ns x k → find_reply t x ≡ Ok (record { found = false; place = k })
+  pub missed : (k : ℕ) → find_reply t x ≡ Ok (record { found = false; place = k }) → Between ns x k
 
 -- so of every table and every text (02, A3)
 abbrev pub FindsExactly : Type 0

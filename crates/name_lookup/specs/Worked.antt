@@ -1,7 +1,8 @@
 -- Texts sought in small tables, and where each stands.
-use Rattle.std.specs.Prelude.{ℕ, Bool, true, false, List, [], ◌∷◌, map}
+use Rattle.std.specs.Prelude.{ℕ, Bool, true, false, List, [], ◌∷◌, map, Ok, Err}
 use Prim.Native.String.{String}
-use Rattle.types.specs.Out.{Out, ok, refuse}
+use Rattle.types.specs.declared.refusal.Refusal.TheVariants as refusal
+use Rattle.types.specs.Out.{Out}
 use Rattle.types.specs.Bytes.{bytes}
 use Rattle.names.specs.Table.{table}
 use Rattle.name_lookup.specs.Lookup.{find_reply}
@@ -14,7 +15,7 @@ pub record Case : Type 0 where
 
 -- the names of a table, and the bytes of a text; whether one is found, and its place
 abbrev sought : List String → List ℕ → Bool → ℕ → Case
-sought ns x f k = record { gives = find_reply (table (map bytes ns)) x; says = ok (record { found = f; place = k }) }
+sought ns x f k = record { gives = find_reply (table (map bytes ns)) x; says = Ok (record { found = f; place = k }) }
 
 -- three names of which each begins with the one before
 abbrev angle : String → Bool → ℕ → Case
@@ -42,5 +43,5 @@ worked =
     ∷ sought ("aa" ∷ "b" ∷ []) (bytes "aa") true 0
     ∷ sought ("aa" ∷ "b" ∷ []) (bytes "b") true 1
     -- a table whose names don't rise
-    ∷ record { gives = find_reply (1 ∷ 98 ∷ 1 ∷ 97 ∷ []) (bytes "a"); says = refuse 1 }
+    ∷ record { gives = find_reply (1 ∷ 98 ∷ 1 ∷ 97 ∷ []) (bytes "a"); says = Err refusal.BadTable }
     ∷ []

@@ -4,25 +4,18 @@
 
 ghost use Rattle.std.specs.Prelude.{◌≡◌};
 ghost use Rattle.names.specs.Table.{split};
-ghost use Rattle.name_lookup.specs.Lookup.{position, find_reply, lookup_out};
+ghost use Rattle.name_lookup.specs.Lookup.{position, find_reply};
 ghost use Rattle.name_lookup.specs.Inner.{Sought};
 
-use names::{Table, check_names, compare, find_places, name_at};
-use types::Ordering;
+use names::{check_names, compare, find_places, name_at};
+use types::{Ordering, Refusal};
 
 // Where a text stands among the names of a table: whether one of them is the text, and how many come before it. Where one is, that
-// is its number.
-#[derive(Clone, Copy)]
+// is its number. No `Option`, since the place is told in both cases.
+#[derive(Clone, Copy, Debug, PartialEq, Eq)]
 pub struct Position {
     pub found: bool,
     pub place: u32,
-}
-
-// A text's position, or the number of a refusal.
-#[derive(Clone, Copy)]
-pub enum Lookup {
-    At(Position),
-    Refused(u32),
 }
 
 // Where the text stands among the names, by halves: those before `low` come before it, those from `low + size` on after it. A turn
@@ -33,6 +26,7 @@ fn find_by_halves(table: &[u8], places: &[u32; 4096], count: usize, text: &[u8])
 {
     let mut low = 0;
     let mut size = count;
+    // Not the library's `binary_search_by`: what is searched is the numbers of names, and the names lie in the table.
     while size > 0 {
         let half = size / 2;
         let middle = low + half;
@@ -59,15 +53,12 @@ fn find_by_halves(table: &[u8], places: &[u32; 4096], count: usize, text: &[u8])
     }
 }
 
-// Where the text stands in the table; 1 where the table breaks a rule. Any text may be sought, also one that can be no name.
-pub fn find_name(table: &[u8], text: &[u8]) -> Lookup
-    ensures { lookup_out result ≡ find_reply table.now text.now }
+// Where the text stands in the table. Any text may be sought, also one that can be no name.
+pub fn find_name(table: &[u8], text: &[u8]) -> Result<Position, Refusal>
+    ensures { result ≡ find_reply table.now text.now }
 {
-    let names = check_names(table);
-    let Table::Names(count) = names else {
-        return Lookup::Refused(1);
-    };
+    let count = check_names(table)?;
     let mut places = [0u32; 4096];
     find_places(table, &mut places);
-    Lookup::At(find_by_halves(table, &places, count, text))
+    Ok(find_by_halves(table, &places, count, text))
 }

@@ -13,8 +13,8 @@ use lib.ListN.{length, get_or, set, take, drop, replicate, length-set, length-dr
 use lib.Seq.{drop-cons, take_at, drop_at, get_or-set_same, get_or-set_other}
 use Rattle.bits.proofs.Sets.{zero_at}
 use Rattle.types.specs.Order.{reversed}
-use Rattle.types.specs.declared.Ordering.{Ordering}
-use Rattle.types.specs.declared.Ordering.TheVariants.{Less, Equal, Greater}
+use Rattle.std.specs.declared.cmp.Ordering.{Ordering}
+use Rattle.std.specs.declared.cmp.Ordering.TheVariants.{Less, Equal, Greater}
 use Rattle.types.proofs.Orders.{less_equal, order_less}
 use Rattle.names.specs.Table.{Name, table, name_order, names_of}
 use Rattle.names.specs.Inner.{name_end}

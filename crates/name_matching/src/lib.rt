@@ -33,8 +33,7 @@ fn step(left: &[u8], right: &[u8], names: &mut [u32; 4096], r: Reading) -> Readi
         Ordering::Less => Reading {
             left_at: left_end,
             left: i + 1,
-            right_at,
-            right: j,
+            ..r
         },
         Ordering::Equal => {
             names[i] = j + 1;
@@ -46,10 +45,9 @@ fn step(left: &[u8], right: &[u8], names: &mut [u32; 4096], r: Reading) -> Readi
             }
         }
         Ordering::Greater => Reading {
-            left_at,
-            left: i,
             right_at: right_end,
             right: j + 1,
+            ..r
         },
     }
 }
@@ -65,10 +63,8 @@ pub fn match_names(left: &[u8], right: &[u8], names: &mut [u32; 4096])
         right_at: 0,
         right: 0,
     };
-    while r.left_at < left.len() {
-        if r.right_at >= right.len() {
-            return;
-        }
+    // No `for`: each step moves on in one table or in both, by as many bytes as a name has.
+    while r.left_at < left.len() && r.right_at < right.len() {
         r = step(left, right, names, r);
     }
 }

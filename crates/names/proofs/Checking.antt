@@ -11,7 +11,9 @@ use lib.Seq.{take_at, drop_at}
 use lib.Dec.{leb}
 use borrow.Author.Tests.{leb-true, le-leb, not-true, not-false}
 use Rattle.words.specs.declared.Layout.TheVariants as layout
-use Rattle.types.specs.Out.{Out, ok, refuse, required}
+use Rattle.std.specs.Prelude.{Ok, Err}
+use Rattle.types.specs.declared.refusal.Refusal.TheVariants as refusal
+use Rattle.types.specs.Out.{Out, required}
 use Rattle.types.proofs.Tests.{true_false, and_true, both}
 use Rattle.types.specs.Order.{is_less}
 use Rattle.names.specs.Table.{Name, table, name_order, rising, good_name, all_good, IsTable, split}
@@ -143,11 +145,11 @@ pub record Stage (t : List ℕ) (from at n k : ℕ) : Type 0 where
   pub short : length t ≤ 65536
   pub few : n ≤ 4096
   pub fewer : k ≤ n
-  pub forth : (ns : List Name) → Rest n (part t from at) (drop at t) ns → odd_bytes t ≡ k + odd_lengths ns → table_reply t ≡ ok (n + length ns)
-  pub other : (ns : List Name) → Rest n (part t from at) (drop at t) ns → (odd_bytes t ≡ k + odd_lengths ns → ⊥) → table_reply t ≡ refuse 1
-  pub back : ((ns : List Name) → Rest n (part t from at) (drop at t) ns → ⊥) → table_reply t ≡ refuse 1
+  pub forth : (ns : List Name) → Rest n (part t from at) (drop at t) ns → odd_bytes t ≡ k + odd_lengths ns → table_reply t ≡ Ok (n + length ns)
+  pub other : (ns : List Name) → Rest n (part t from at) (drop at t) ns → (odd_bytes t ≡ k + odd_lengths ns → ⊥) → table_reply t ≡ Err refusal.BadTable
+  pub back : ((ns : List Name) → Rest n (part t from at) (drop at t) ns → ⊥) → table_reply t ≡ Err refusal.BadTable
 
-pub stage_long : (t : List ℕ) → 65536 < length t → refuse 1 ≡ table_reply t
+pub stage_long : (t : List ℕ) → 65536 < length t → Err refusal.BadTable ≡ table_reply t
 unfolding required
 stage_long t h = sym (reply_of t (no_names_of (λ ns T. omega (arith, ap length T.bytes, (good_rules layout.New ns T.good).short))))
 
@@ -160,7 +162,7 @@ module _ {t : List ℕ} where
     short = h;
     few = omega arith;
     fewer = omega arith;
-    forth = λ ns R e. reply_of t (is_names_of (rest_table h R (omega (arith, e)))) ∙ ap {B = Out ℕ} ok (omega arith);
+    forth = λ ns R e. reply_of t (is_names_of (rest_table h R (omega (arith, e)))) ∙ ap {B = Out ℕ} Ok (omega arith);
     other = λ ns R f. reply_of t (no_names_of (λ ms T. f (omega (arith, rest_odd R T))));
     back = λ f. reply_of t (no_names_of (λ ns T. f ns (table_rest T)));
   }
@@ -172,19 +174,19 @@ module _ {t : List ℕ} where
       nothing_left = record { bytes = drop_of_length-le t h; few = omega (arith, S.few); sized = refl; rises = refl }
 
       module _ {x : ℕ} (e : x ≡ odd_bytes t) where
-        pub stage_odd : (x ≡ k → ⊥) → refuse 1 ≡ table_reply t
+        pub stage_odd : (x ≡ k → ⊥) → Err refusal.BadTable ≡ table_reply t
         unfolding odd_lengths
         stage_odd f = sym (S.other [] nothing_left (λ g. f (omega (arith, e, g))))
 
-        pub stage_done : x ≡ k → ok n ≡ table_reply t
+        pub stage_done : x ≡ k → Ok n ≡ table_reply t
         unfolding odd_lengths
-        stage_done f = sym (S.forth [] nothing_left (omega (arith, e, f)) ∙ ap {B = Out ℕ} ok (omega arith))
+        stage_done f = sym (S.forth [] nothing_left (omega (arith, e, f)) ∙ ap {B = Out ℕ} Ok (omega arith))
 
     module _ (h : at < length t) where
       next : {ns : List Name} → Rest n (part t from at) (drop at t) ns → Step n (part t from at) (get_or t at 0) (drop (at + 1) t)
       next {ns} R = step ns (rw (entry {e = name_end t at} h refl).front at R)
 
-      pub stage_full : 4096 ≤ n → refuse 1 ≡ table_reply t
+      pub stage_full : 4096 ≤ n → Err refusal.BadTable ≡ table_reply t
       stage_full m = sym (S.back (λ ns R. omega (arith, (next R).room)))
 
       pub stage_fits : n < 4096 → {x : ℕ} → x ≡ odd (get_or t at 0) → Fits w32 (k + x)
@@ -194,7 +196,7 @@ module _ {t : List ℕ} where
         comes_in : r ≡ comes_next (part t from at) (get_or t at 0) (take (get_or t at 0) (drop (at + 1) t))
         comes_in = q ∙ ap (comes_next (part t from at) (get_or t at 0)) (entry h p).text
 
-        pub stage_bad : not r ≡ true → refuse 1 ≡ table_reply t
+        pub stage_bad : not r ≡ true → Err refusal.BadTable ≡ table_reply t
         stage_bad f = sym (S.back (λ ns R. true_false (sym (next R).comes ∙ sym comes_in ∙ not-true r f)))
 
         module _ (f : not r ≡ false) where
@@ -217,7 +219,7 @@ module _ {t : List ℕ} where
                 short = S.short;
                 few = omega arith;
                 fewer = omega (arith, odd_small (get_or t at 0), S.fewer, o);
-                forth = λ ns R g. S.forth _ (before R) (omega (arith, g, o, length_odd ns)) ∙ ap {B = Out ℕ} ok (omega arith);
+                forth = λ ns R g. S.forth _ (before R) (omega (arith, g, o, length_odd ns)) ∙ ap {B = Out ℕ} Ok (omega arith);
                 other = λ ns R f. S.other _ (before R) (λ g. f (omega (arith, g, o, length_odd ns)));
                 back = λ f. S.back (λ ns R. let N = next R in f N.after (rw (E.text, E.rest) N.rest));
               }

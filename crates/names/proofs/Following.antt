@@ -5,10 +5,11 @@ use mathlib.Core.Bool.{Bool, true, false, not, ◌&&◌}
 use native.Mathlib.Omega.{arith}
 use lib.ListN.{length}
 use lib.Dec.{leb, eqb}
-use borrow.Author.Tests.{eq-eqb, ne_eqb, eqb-true, leb-true, le-leb, lt-leb, not-true, not-false}
+use borrow.Author.Tests.{eq-eqb, ne_eqb, eqb-true, eqb-false, leb-true, le-leb, lt-leb, not-true, not-false}
+use Rattle.std.specs.Ordering.{is_lt}
 use Rattle.types.specs.Order.{is_less}
-use Rattle.types.specs.declared.Ordering.{Ordering}
-use Rattle.types.specs.declared.Ordering.TheVariants.{Less, Equal, Greater}
+use Rattle.std.specs.declared.cmp.Ordering.{Ordering}
+use Rattle.types.proofs.Orders.{less_is}
 use Rattle.types.proofs.Tests.{and_true, both, same_truth}
 use Rattle.types.proofs.Tests as tests
 use Rattle.names.specs.Table.{Name, name_order, good_name, may_follow}
@@ -44,28 +45,22 @@ module _ (last n : Name) (b : ℕ) {x : ℕ} (e : x ≡ b) where
     whole : eqb b (length n) ≡ true
     whole = eq-eqb b (length n) (sym e ∙ f)
 
-    pub comes_empty : length n < 1 → false ≡ comes_next last b n
+    pub comes_empty : {q : Bool} → q ≡ eqb (length n) 0 → q ≡ true → false ≡ comes_next last b n
     unfolding comes_next
-    comes_empty h = rw (comes_next, whole) (rw (lt-leb 1 (length n) h))
+    comes_empty u w = let h : length n < 1 = omega (arith, eqb-true (length n) 0 (sym u ∙ w)) in rw (comes_next, whole) (rw (lt-leb 1 (length n) h))
 
-    module _ (g : 1 ≤ length n) where
+    module _ {t : Bool} (u : t ≡ eqb (length n) 0) (w : t ≡ false) where
+      g : 1 ≤ length n
+      g = let h = eqb-false (length n) 0 (sym u ∙ w) in omega (arith, h)
+
       pub comes_long : 64 < length n → false ≡ comes_next last b n
       unfolding comes_next
       comes_long h = rw (comes_next, whole) (rw (le-leb 1 (length n) g, lt-leb (length n) 64 h))
 
       module _ (h : length n ≤ 64) {o : Ordering} (q : o ≡ name_order last n) where
-        told : {w : Ordering} → o ≡ w → comes_next last b n ≡ is_less w
+        pub comes_told : {r : Bool} → r ≡ is_lt o → r ≡ comes_next last b n
         unfolding comes_next
-        told s = rw (comes_next, whole) (rw (le-leb 1 (length n) g, le-leb (length n) 64 h) (ap is_less (sym q ∙ s)))
-
-        pub comes_less : o ≡ Less → true ≡ comes_next last b n
-        comes_less s = sym (told s)
-
-        pub comes_equal : o ≡ Equal → false ≡ comes_next last b n
-        comes_equal s = sym (told s)
-
-        pub comes_greater : o ≡ Greater → false ≡ comes_next last b n
-        comes_greater s = sym (told s)
+        comes_told s = s ∙ less_is o ∙ sym (rw (comes_next, whole) (rw (le-leb 1 (length n) g, le-leb (length n) 64 h) (ap is_less (sym q))))
 
 -- ---- with its bytes
 pub record Follows (last : Name) (b : ℕ) (n : Name) : Type 0 where

@@ -9,8 +9,8 @@ use native.Mathlib.Nat.{le_of_suc-le-suc}
 use lib.ListN.{length, get_or, get_or-eq_default}
 use Rattle.words.specs.declared.Layout.TheVariants as layout
 use Rattle.types.specs.Order.{is_less, reversed}
-use Rattle.types.specs.declared.Ordering.{Ordering}
-use Rattle.types.specs.declared.Ordering.TheVariants.{Less, Equal, Greater}
+use Rattle.std.specs.declared.cmp.Ordering.{Ordering}
+use Rattle.std.specs.declared.cmp.Ordering.TheVariants.{Less, Equal, Greater}
 use Rattle.types.proofs.Tests.{true_false, and_true}
 use Rattle.types.proofs.Orders.{order_total, order_less, order_equal, order_greater, compared, lexicographic_total}
 use Rattle.names.specs.Table.{Name, name_order, rising, good_name, all_good, names_of, name_text}

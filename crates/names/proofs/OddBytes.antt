@@ -74,9 +74,6 @@ pub record Counted (bs : List ℕ) (n i : ℕ) : Type 0 where
   pub rest : odd_bytes bs ≡ n + odd_bytes (drop i bs)
 
 module _ {bs : List ℕ} where
-  pub count_start : Counted bs 0 0
-  count_start = record { high = omega arith; low = omega arith; rest = omega arith }
-
   module _ {n i : ℕ} (C : Counted bs n i) where
     module _ (h : i < length bs) {x : ℕ} (e : x ≡ odd (get_or bs i 0)) where
       pub count_fits : length bs ≤ 65536 → Fits w32 (n + x)

@@ -9,50 +9,49 @@ use lib.ListN.{length, get_or, take, drop, length-drop}
 use lib.Seq.{length-take-le, take_at, drop_at, drop-cons, drop-drop}
 use lib.Dec.{ltb}
 use borrow.Author.Tests.{lt-ltb, le-ltb, ltb-true}
-use Rattle.types.specs.Out.{Out, ok, refuse, required}
+use Rattle.std.specs.Prelude.{Ok, Err}
+use Rattle.types.specs.declared.refusal.Refusal.{Refusal}
+use Rattle.types.specs.declared.refusal.Refusal.TheVariants as refusal
+use Rattle.types.specs.Out.{Out, required}
 use Rattle.names.specs.Table.{Name, table, split, names_of}
 use Rattle.names.specs.Inner.{Lies}
-use Rattle.names.specs.Reply.{table_reply, table_out, stretch, name_reply}
+use Rattle.names.specs.Reply.{table_reply, stretch, name_reply}
 use Rattle.names.specs.Theorems.{IsText, StretchIsText}
 use Rattle.names.specs.declared.Stretch.{Stretch}
-use Rattle.names.specs.declared.Table.{Table}
-use Rattle.names.specs.declared.Table.TheVariants as table
 use Rattle.names.proofs.Tables.{names_of_is, split_is, name_text_is}
 use Rattle.names.proofs.Replies.{counted, faulty}
 
 abbrev by_number : ℕ → List Name → Out Stretch
-by_number k ns = elim (ltb k (length ns)) [ false ↦ refuse 4 | true ↦ ok (stretch ns k) ]
+by_number k ns = elim (ltb k (length ns)) [ false ↦ Err refusal.OutOfRange | true ↦ Ok (stretch ns k) ]
 
 module _ (t : List ℕ) (k : ℕ) where
-  reply_of : {o : Option (List Name)} → names_of t ≡ o → name_reply t k ≡ required 1 o (by_number k)
+  reply_of : {o : Option (List Name)} → names_of t ≡ o → name_reply t k ≡ required refusal.BadTable o (by_number k)
   unfolding name_reply
-  reply_of e = ap (λ (o : Option (List Name)). required 1 o (by_number k)) e
+  reply_of e = ap (λ (o : Option (List Name)). required refusal.BadTable o (by_number k)) e
 
-  reply_by : {ns : List Name} {b : Bool} → names_of t ≡ some ns → ltb k (length ns) ≡ b → name_reply t k ≡ elim b [ false ↦ refuse 4 | true ↦ ok (stretch ns k) ]
+  reply_by : {ns : List Name} {b : Bool} → names_of t ≡ some ns → ltb k (length ns) ≡ b → name_reply t k ≡ elim b [ false ↦ Err refusal.OutOfRange | true ↦ Ok (stretch ns k) ]
   unfolding required
-  reply_by {ns} e p = reply_of e ∙ ap (λ (b : Bool). elim b [ false ↦ refuse 4 | true ↦ ok (stretch ns k) ]) p
+  reply_by {ns} e p = reply_of e ∙ ap (λ (b : Bool). elim b [ false ↦ Err refusal.OutOfRange | true ↦ Ok (stretch ns k) ]) p
 
   -- ---- the call, after the check of the table
-  module _ {r : Table} (e : table_out r ≡ table_reply t) where
-    pub stretch_1 : {f : ℕ} → r ≡ table.Refused f → refuse 1 ≡ name_reply t k
-    unfolding required
-    stretch_1 p = sym (reply_of (faulty e p).is)
+  pub stretch_refused : {e : Refusal} → Err e ≡ table_reply t → Err e ≡ name_reply t k
+  unfolding required
+  stretch_refused h = let F = faulty h in ap {B = Out Stretch} Err F.refusal ∙ sym (reply_of F.is)
 
-    module _ {n : ℕ} (p : r ≡ table.Names n) {j : ℕ} (i : j ≡ k) where
-      pub stretch_4 : n ≤ j → refuse 4 ≡ name_reply t k
-      stretch_4 h = let C = counted e p in sym (reply_by C.is (le-ltb k (length C.names) (omega (arith, C.count))))
+  pub stretch_4 : {n : ℕ} → Ok n ≡ table_reply t → n ≤ k → Err refusal.OutOfRange ≡ name_reply t k
+  stretch_4 e h = let C = counted e in sym (reply_by C.is (le-ltb k (length C.names) (omega (arith, C.count))))
 
-pub stretch_found : {t : List ℕ} {j k : ℕ} {q : Stretch} → Lies t j q → j ≡ k → {r : Table} → table_out r ≡ table_reply t → {n : ℕ} → r ≡ table.Names n → j < n → ok q ≡ name_reply t k
+pub stretch_found : {t : List ℕ} {j k : ℕ} {q : Stretch} → Lies t j q → j ≡ k → {n : ℕ} → Ok n ≡ table_reply t → j < n → Ok q ≡ name_reply t k
 unfolding stretch
-stretch_found {t} {k = k} {q} L i e p h =
-    let C = counted e p in
+stretch_found {t} {k = k} {q} L i e h =
+    let C = counted e in
     let s : split t ≡ C.names = split_is (names_of_is t C.names C.is) in
     let l : k < length C.names = omega (arith, C.count) in
     let M : Lies t k q = rw i at L in
     let b : q.start ≡ length (table (take k C.names)) + 1 = rw s at M.behind l in
     let m : length (take q.length (drop q.start t)) ≡ q.length = length-take-le q.length (drop q.start t) (simp length-drop (omega (arith, M.within))) in
     let d : q.length ≡ length (get_or C.names k []) = sym m ∙ ap length (M.text ∙ name_text_is t C.names k C.is) in
-    ap {B = Out Stretch} ok (λ x. record { start = b x; length = d x }) ∙ sym (reply_by t k C.is (lt-ltb k (length C.names) l))
+    ap {B = Out Stretch} Ok (λ x. record { start = b x; length = d x }) ∙ sym (reply_by t k C.is (lt-ltb k (length C.names) l))
 
 -- ---- the stretch is the text
 table_split : (k : ℕ) (ns : List Name) → table ns ≡ table (take k ns) ++ table (drop k ns)

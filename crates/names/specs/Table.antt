@@ -5,7 +5,7 @@ use Rattle.words.specs.declared.Layout.{Layout}
 use Rattle.words.specs.declared.Layout.TheVariants as layout
 use Rattle.types.specs.Same.{same_numbers}
 use Rattle.types.specs.Order.{order, lexicographic, is_less}
-use Rattle.types.specs.declared.Ordering.{Ordering}
+use Rattle.std.specs.declared.cmp.Ordering.{Ordering}
 
 -- a name is its bytes
 abbrev pub Name : Type 0

@@ -1,9 +1,8 @@
 -- What is shown of these definitions beyond the contracts. A statement with parameters holds for all of them.
-use Rattle.std.specs.Prelude.{ℕ, ◌<◌, ◌≡◌, List, [], length, get_or, take, drop}
+use Rattle.std.specs.Prelude.{ℕ, ◌<◌, ◌≡◌, List, [], length, get_or, take, drop, Ok}
 use Rattle.std.proofs.Math.Option.{some}
 use Rattle.types.specs.Order.{order, TotalOrder}
 use Rattle.names.specs.Table.{Name, name_order, IsTable, names_of}
-use Rattle.types.specs.Out.{ok}
 use Rattle.names.specs.Reply.{name_reply}
 use Rattle.names.specs.declared.Stretch.{Stretch}
 
@@ -38,4 +37,4 @@ pub record IsText (t : List ℕ) (number : ℕ) (q : Stretch) : Type 0 where
 
 -- what `name_stretch` answers is that text (01, "A name's text is given back as that stretch of the table")
 abbrev pub StretchIsText : Type 0
-StretchIsText = (t : List ℕ) (number : ℕ) (q : Stretch) → name_reply t number ≡ ok q → IsText t number q
+StretchIsText = (t : List ℕ) (number : ℕ) (q : Stretch) → name_reply t number ≡ Ok q → IsText t number q

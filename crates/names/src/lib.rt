@@ -5,52 +5,19 @@
 // the numbers and the places of its names and of the check's answer.
 #![tactic(auto)]
 
-ghost use Rattle.std.specs.Prelude.{◌≤◌, min, ◌≡◌, length};
+ghost use Rattle.std.specs.Prelude.{◌≤◌, ◌≡◌, length};
 ghost use Rattle.names.specs.Table.{name_order, name_text, may_follow};
-ghost use Rattle.names.specs.Reply.{table_reply, table_out, name_reply, placed_out};
+ghost use Rattle.names.specs.Reply.{table_reply, name_reply};
 ghost use Rattle.names.specs.Inner.{odd, odd_bytes, comes_next, name_end, Lies, Unplaced, Places};
 
-use types::Ordering;
-
-// The lesser of two counts.
-fn lesser(m: usize, n: usize) -> usize
-    ensures { result ≡ min m n }
-{
-    if m < n {
-        return m;
-    }
-    n
-}
+use types::arc_ty::wide;
+use types::{Ordering, Refusal};
 
 // How two names stand, which may be of different tables.
 pub fn compare(a: &[u8], b: &[u8]) -> Ordering
     ensures { result ≡ name_order a.now b.now }
 {
-    let common = lesser(a.len(), b.len());
-    let mut i = 0;
-    while i < common {
-        if a[i] != b[i] {
-            if a[i] < b[i] {
-                return Ordering::Less;
-            }
-            return Ordering::Greater;
-        }
-        i += 1;
-    }
-    if i < b.len() {
-        return Ordering::Less;
-    }
-    if i < a.len() {
-        return Ordering::Greater;
-    }
-    Ordering::Equal
-}
-
-// A byte as a count.
-pub fn wide(x: u8) -> usize
-    ensures { result ≡ x }
-{
-    x as usize
+    a.cmp(b)
 }
 
 // 1 for a byte that can't stand in a name, else 0.
@@ -66,10 +33,8 @@ fn count_odd(bytes: &[u8]) -> u32
     ensures { result ≡ odd_bytes bytes.now }
 {
     let mut count = 0;
-    let mut i = 0;
-    while i < bytes.len() {
-        count += odd(bytes[i]);
-        i += 1;
+    for byte in bytes {
+        count += odd(*byte);
     }
     count
 }
@@ -78,21 +43,16 @@ fn count_odd(bytes: &[u8]) -> u32
 fn comes_next(last: &[u8], length: u8, name: &[u8]) -> bool
     ensures { result ≡ comes_next last.now length name.now }
 {
-    if wide(length) != name.len() {
+    if usize::from(length) != name.len() {
         return false;
     }
-    if name.len() < 1 {
+    if name.is_empty() {
         return false;
     }
     if name.len() > 64 {
         return false;
     }
-    let order = compare(last, name);
-    match order {
-        Ordering::Less => true,
-        Ordering::Equal => false,
-        Ordering::Greater => false,
-    }
+    compare(last, name).is_lt()
 }
 
 // Whether a name with this length byte may follow the last one.
@@ -112,7 +72,7 @@ pub fn end_of(table: &[u8], at: usize) -> usize
     if at >= table.len() {
         return table.len();
     }
-    let length = wide(table[at]);
+    let length = usize::from(table[at]);
     let start = at + 1;
     if table.len() - start < length {
         return table.len();
@@ -120,34 +80,28 @@ pub fn end_of(table: &[u8], at: usize) -> usize
     start + length
 }
 
-// A table's count of names, or the number of its refusal.
-#[derive(Clone, Copy)]
-pub enum Table {
-    Names(usize),
-    Refused(u32),
-}
-
-// How many names the table has; 1 where it breaks a rule. The last name read is `table[from..at]`: at first that is the empty
+// How many names the table has. The last name read is `table[from..at]`: at first that is the empty
 // text, which any good name may follow. The bytes of the names are judged at the end, all at once: the odd bytes of a table are
 // those of its length bytes that are odd, and no others.
-pub fn check_names(table: &[u8]) -> Table
-    ensures { table_out result ≡ table_reply table.now }
+pub fn check_names(table: &[u8]) -> Result<usize, Refusal>
+    ensures { result ≡ table_reply table.now }
 {
     if table.len() > 65536 {
-        return Table::Refused(1);
+        return Err(Refusal::BadTable);
     }
     let mut from = 0;
     let mut at = 0;
     let mut count: usize = 0;
     let mut lengths = 0;
+    // No `for` here or below: the place moves on by as many bytes as a name has.
     while at < table.len() {
         if count >= 4096 {
-            return Table::Refused(1);
+            return Err(Refusal::BadTable);
         }
         let start = at + 1;
         let end = end_of(table, at);
         if !comes_next(&table[from..at], table[at], &table[start..end]) {
-            return Table::Refused(1);
+            return Err(Refusal::BadTable);
         }
         lengths += odd(table[at]);
         from = start;
@@ -155,13 +109,13 @@ pub fn check_names(table: &[u8]) -> Table
         count += 1;
     }
     if count_odd(table) != lengths {
-        return Table::Refused(1);
+        return Err(Refusal::BadTable);
     }
-    Table::Names(count)
+    Ok(count)
 }
 
 // A stretch of the table: where it starts, and how many bytes it has.
-#[derive(Clone, Copy)]
+#[derive(Clone, Copy, Debug, PartialEq, Eq)]
 pub struct Stretch {
     pub start: usize,
     pub length: usize,
@@ -212,7 +166,7 @@ pub fn name_at<'a>(table: &'a [u8], places: &[u32; 4096], k: usize) -> &'a [u8]
     if k >= 4096 {
         return &table[..0];
     }
-    let start = types::arc_ty::wide(places[k]);
+    let start = wide(places[k]);
     if start == 0 {
         return &table[..0];
     }
@@ -220,24 +174,14 @@ pub fn name_at<'a>(table: &'a [u8], places: &[u32; 4096], k: usize) -> &'a [u8]
     &table[start..end]
 }
 
-// The stretch of a name's text, or the number of a refusal.
-#[derive(Clone, Copy)]
-pub enum Placed {
-    At(Stretch),
-    Refused(u32),
-}
-
-// Where the text of the name with this number lies in the table; 1 where the table breaks a rule, 4 where it has no such name.
-pub fn name_stretch(table: &[u8], number: u32) -> Placed
-    ensures { placed_out result ≡ name_reply table.now number }
+// Where the text of the name with this number lies in the table.
+pub fn name_stretch(table: &[u8], number: u32) -> Result<Stretch, Refusal>
+    ensures { result ≡ name_reply table.now number }
 {
-    let names = check_names(table);
-    let Table::Names(count) = names else {
-        return Placed::Refused(1);
-    };
-    let k = types::arc_ty::wide(number);
+    let count = check_names(table)?;
+    let k = wide(number);
     if k >= count {
-        return Placed::Refused(4);
+        return Err(Refusal::OutOfRange);
     }
-    Placed::At(stretch_at(table, k))
+    Ok(stretch_at(table, k))
 }

@@ -8,11 +8,14 @@ use lib.ListN.{length, get_or, take, drop, length-drop}
 use lib.Seq.{take_all}
 use lib.Dec.{eqb, leb}
 use borrow.Author.Tests.{eqb-true, eq-eqb, leb-true, not-true, not-false}
+use Rattle.std.specs.Prelude.{Ok, is_ok}
+use Rattle.types.specs.Out.{Out}
 use Rattle.words.specs.Words.{bit, child, field_optional, head_kind, head_open, head_dynamic, head_zero, head_count}
 use Rattle.types.specs.Kind.{kind_of, body_count, code, children}
 use Rattle.types.specs.Node.{below}
 use Rattle.types.specs.Fault.{body_fits_in, head_fits, fault}
 use Rattle.types.proofs.Tests.{and_true, both}
+use Rattle.types.proofs.Refusals.{is_ok_unit}
 use Rattle.node_faults.specs.Inner.{within, count_fits, body_fault, kind_fault, CleanChildren, CleanFields, Clean, CleanBody}
 use Rattle.node_faults.proofs.Passing.{all_join, is_below}
 use Rattle.node_faults.proofs.Heads.{head_all}
@@ -20,14 +23,14 @@ use Rattle.node_faults.proofs.Bodies.{children_all, fields_all, name_good}
 use Rattle.node_faults.proofs.Answers.{fault_kind}
 use Rattle.node_faults.proofs.Quick.{untrue}
 
-pub clean_not : {x : Bool} {f : ℕ} → Clean x f false
+pub clean_not : {x : Bool} {f : Out (Unit {0})} → Clean x f false
 clean_not = record { fitting = untrue; faultless = untrue }
 
 -- ---- bodies
 module _ (table nodes : ℕ) (b : List ℕ) where
-  pub children_clean : {x w r : Bool} → w ≡ x → not w ≡ false → CleanChildren nodes b r → Clean x (body_fault table nodes children false b) r
-  children_clean {w = w} p g C = record {
-    fitting = λ e. sym p ∙ not-false w g;
+  pub children_clean : {x w r : Bool} → w ≡ x → w ≡ true → CleanChildren nodes b r → Clean x (body_fault table nodes children false b) r
+  children_clean p g C = record {
+    fitting = λ e. sym p ∙ g;
     faultless = λ e. sym (children_all table nodes false b refl (sym (C.zeros e)) (sym (C.linked e)));
   }
 
@@ -55,19 +58,19 @@ module _ (table nodes : ℕ) (b : List ℕ) where
   pub clean_at : {k j : ℕ} → k ≡ j → {r : Bool} → CleanBody table nodes j false b r → CleanBody table nodes k false b r
   clean_at e {r} C = subst (λ (i : ℕ). CleanBody table nodes i false b r) (sym e) C
 
-  pub code_clean : {f : ℕ} → f ≡ body_fault 0 0 code false b → CleanBody table nodes 2 false b (eqb (length b) 1 && eqb f 0)
+  pub code_clean : {f : Out (Unit {0})} {q : Bool} → f ≡ body_fault 0 0 code false b → q ≡ is_ok f → CleanBody table nodes 2 false b (eqb (length b) 1 && q)
   unfolding kind_of kind_fault count_fits body_count body_fault body_fits_in below
-  code_clean {f} e = record {
-    fitting = λ t. (and_true (eqb (length b) 1) (eqb f 0) t).0;
-    faultless = λ t. sym e ∙ eqb-true f 0 (and_true (eqb (length b) 1) (eqb f 0) t).1;
+  code_clean {f} {q} e g = record {
+    fitting = λ t. (and_true (eqb (length b) 1) q t).0;
+    faultless = λ t. sym e ∙ is_ok_unit f (sym g ∙ (and_true (eqb (length b) 1) q t).1);
   }
 
 -- no test but that of the count
-pub counted_clean : (x : Bool) → Clean x 0 x
+pub counted_clean : (x : Bool) → Clean x (Ok tt) x
 counted_clean x = record { fitting = λ t. t; faultless = λ t. refl }
 
 -- so many words exactly
-pub exact_clean : (n j : ℕ) {f : ℕ} {r : Bool} → Clean (within n n j) f r → Clean (eqb j n) f r
+pub exact_clean : (n j : ℕ) {f : Out (Unit {0})} {r : Bool} → Clean (within n n j) f r → Clean (eqb j n) f r
 exact_clean n j C = record {
   fitting = λ t. let (p, q) = and_true (leb n j) (leb j n) (C.fitting t) in eq-eqb j n (omega (arith, leb-true n j p, leb-true j n q));
   faultless = C.faultless;
@@ -75,7 +78,7 @@ exact_clean n j C = record {
 
 -- ---- a node
 module _ (table nodes h : ℕ) (b : List ℕ) {z k n : ℕ} {d : Bool} (p : z ≡ head_zero h) (q : k ≡ head_kind h) (t : d ≡ head_dynamic h) (u : n ≡ head_count h) where
-  faultless : {o : Bool} → o ≡ head_open h → (eqb k 6 || (not o && not d)) ≡ true → (eqb z 0 && eqb n (length b)) ≡ true → {r : Bool} → CleanBody table nodes k d b r → r ≡ true → fault table nodes (h ∷ b) ≡ 0
+  faultless : {o : Bool} → o ≡ head_open h → (eqb k 6 || (not o && not d)) ≡ true → (eqb z 0 && eqb n (length b)) ≡ true → {r : Bool} → CleanBody table nodes k d b r → r ≡ true → fault table nodes (h ∷ b) ≡ Ok tt
   faultless {o} s f c C e =
       let (y, l) = and_true (eqb z 0) (eqb n (length b)) c in
       let m : n ≡ length b = eqb-true n (length b) l in

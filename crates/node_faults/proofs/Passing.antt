@@ -1,13 +1,14 @@
 -- A loop that tests word after word: those passed meet the test, so the rest decides.
 use Prim.Native.Nat.{ℕ, zero, suc, ◌+◌, ◌<◌, ◌≤◌}
 use mathlib.Core.Path.{◌≡◌, refl, sym, ap, ◌∙◌}
-use mathlib.Core.Bool.{Bool, true, false, ◌&&◌}
+use mathlib.Core.Bool.{Bool, true, ◌&&◌}
 use mathlib.Core.List.{List, [], ◌∷◌, map}
 use native.Mathlib.Numerals.{add-one}
 use lib.ListN.{length, get_or, take, drop, drop_of_length-le}
 use lib.Seq.{drop-cons}
 use lib.Dec.{eqb, ltb}
-use borrow.Author.Tests.{eq-eqb, ne_eqb, lt-ltb, le-ltb}
+use borrow.Author.Tests.{eq-eqb, lt-ltb}
+use Rattle.std.specs.List.{list_all}
 use Rattle.types.specs.Node.{below}
 use Rattle.types.specs.Fault.{each_zero}
 use Rattle.types.proofs.Tests.{and_true, both}
@@ -34,6 +35,17 @@ all_cons : (t : Test) (w : ℕ) (ws : List ℕ) → all_meet t (w ∷ ws) ≡ (m
 unfolding each_zero below
 all_cons (is_zero f) w ws = refl
 all_cons (is_below n f) w ws = refl
+
+-- the same as std tells it
+pub all_zero : (f : ℕ → ℕ) (ws : List ℕ) → list_all (λ w. eqb (f w) 0) ws ≡ each_zero f ws
+unfolding each_zero
+all_zero f [] = refl
+all_zero f (w ∷ ws) = ap (λ (b : Bool). eqb (f w) 0 && b) (all_zero f ws)
+
+pub all_below : (n : ℕ) (f : ℕ → ℕ) (ws : List ℕ) → list_all (λ w. ltb (f w) n) ws ≡ below n (map f ws)
+unfolding below
+all_below n f [] = refl
+all_below n f (w ∷ ws) = ap (λ (b : Bool). ltb (f w) n && b) (all_below n f ws)
 
 -- where both parts of a list meet a test, the list does
 pub all_join : (t : Test) (k : ℕ) (ws : List ℕ) → all_meet t (take k ws) ≡ true → all_meet t (drop k ws) ≡ true → all_meet t ws ≡ true
@@ -65,12 +77,6 @@ module _ {f : ℕ → ℕ} {ws : List ℕ} {i : ℕ} (P : Passed (is_zero f) ws 
   pub zero_more : x ≡ 0 → Passed (is_zero f) ws (i + 1)
   zero_more z = record { rest = next P h (eq-eqb _ 0 (sym e ∙ z)) }
 
-  pub zero_fails : (x ≡ 0 → ⊥) → false ≡ each_zero f ws
-  zero_fails z = sym (next P h (ne_eqb _ 0 (λ p. z (e ∙ p))))
-
 module _ {n : ℕ} {f : ℕ → ℕ} {ws : List ℕ} {i : ℕ} (P : Passed (is_below n f) ws i) where
   pub below_more : {x : ℕ} → x < n → x ≡ f (get_or ws i 0) → i < length ws → Passed (is_below n f) ws (i + 1)
   below_more {x} l e h = record { rest = next P h (ap (λ (v : ℕ). ltb v n) (sym e) ∙ lt-ltb x n l) }
-
-  pub below_fails : {x : ℕ} → n ≤ x → x ≡ f (get_or ws i 0) → i < length ws → false ≡ below n (map f ws)
-  below_fails {x} l e h = sym (next P h (ap (λ (v : ℕ). ltb v n) (sym e) ∙ le-ltb x n l))

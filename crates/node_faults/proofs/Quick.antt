@@ -1,21 +1,23 @@
 -- The loops of the quick tests: the words passed have no fault.
-use Prim.Native.Nat.{ℕ, ◌+◌, ◌-◌, ◌*◌, ◌^◌, ◌<◌, ◌≤◌}
+use Prim.Native.Nat.{ℕ, ◌+◌, ◌-◌, ◌*◌, ◌<◌, ◌≤◌}
 use mathlib.Core.Path.{◌≡◌, refl, sym, ap, ◌∙◌}
-use mathlib.Core.Bool.{true, false}
-use mathlib.Core.List.{List, map}
+use mathlib.Core.Bool.{Bool, true, false}
+use mathlib.Core.List.{List, [], ◌∷◌, map}
 use native.Mathlib.Decide.{ℕ_discrete}
 use native.Mathlib.Omega.{arith}
 use lib.ListN.{length, get_or}
-use lib.Dec.{leb}
-use borrow.Author.Tests.{leb-true}
+use lib.Dec.{leb, ltb}
+use borrow.Author.Tests.{leb-true, ltb-true, eq-eqb}
 use mir.Syntax.{w32, w64}
 use mir.Val.{Fits}
 use Rattle.words.specs.declared.Layout.TheVariants as layout
 use Rattle.words.specs.Words.{child, child_zero, field_name, field_zero}
 use Rattle.words.proofs.Words.{child_zero_made, child_of_fields, field_bounded}
-use Rattle.types.specs.Node.{rising}
-use Rattle.types.proofs.Tests.{true_false}
+use Rattle.types.specs.Node.{below, rising}
+use Rattle.types.proofs.Tests.{true_false, and_true, both}
 use Rattle.node_faults.specs.Inner.{CleanChildren, CleanFields}
+use Rattle.std.specs.List.{list_all}
+use Rattle.types.specs.Fault.{each_zero}
 use Rattle.node_faults.proofs.Passing.{Passed, is_zero, is_below, passed_start, zero_more, zero_done, below_more, below_done}
 use Rattle.node_faults.proofs.Rising.{Risen, risen_start, risen_more, risen_done}
 
@@ -24,30 +26,17 @@ pub untrue : {A : Type 0} → false ≡ true → A
 untrue e = absurd (true_false (sym e))
 
 -- ---- child words: a number of 12 bits is its own child
-pub record ChildrenPassed (nodes : ℕ) (ws : List ℕ) (i : ℕ) : Type 0 where
-  pub few : nodes ≤ 2 ^ 12
-  pub zeros : Passed (is_zero child_zero) ws i
-  pub linked : Passed (is_below nodes child) ws i
+each_clean : {nodes : ℕ} (ws : List ℕ) → nodes ≤ 4096 → list_all (λ w. ltb w nodes) ws ≡ true → (each_zero child_zero ws ≡ true) × (below nodes (map child ws) ≡ true)
+unfolding each_zero below
+each_clean [] h e = (refl, refl)
+each_clean {nodes} (w ∷ ws) h e =
+    let (p, q) = and_true (ltb w nodes) _ e in
+    let (s, t) = each_clean ws h q in
+    let z : child_zero w ≡ 0 = child_zero_made w (omega (arith, ltb-true w nodes p)) in
+    (both (eq-eqb (child_zero w) 0 z) s, both (ap (λ (x : ℕ). ltb x nodes) (child_of_fields w z) ∙ p) t)
 
-module _ {nodes : ℕ} {ws : List ℕ} where
-  pub children_stopped : CleanChildren nodes ws false
-  children_stopped = record { zeros = untrue; linked = untrue }
-
-  pub children_start : nodes ≤ 4096 → ChildrenPassed nodes ws 0
-  children_start h = record { few = h; zeros = passed_start; linked = passed_start }
-
-  module _ {i : ℕ} (P : ChildrenPassed nodes ws i) where
-    pub children_more : {x : ℕ} → x < nodes → x ≡ get_or ws i 0 → i < length ws → ChildrenPassed nodes ws (i + 1)
-    children_more {x} l e h =
-        let z : child_zero x ≡ 0 = child_zero_made x (omega (arith, P.few)) in
-        record {
-          few = P.few;
-          zeros = zero_more P.zeros h (ap child_zero e) z;
-          linked = below_more P.linked l (sym (child_of_fields x z) ∙ ap child e) h;
-        }
-
-    pub children_done : length ws ≤ i → CleanChildren nodes ws true
-    children_done h = record { zeros = λ e. sym (zero_done P.zeros h); linked = λ e. sym (below_done P.linked h) }
+pub children_clean : {nodes : ℕ} {r : Bool} (ws : List ℕ) → nodes ≤ 4096 → r ≡ list_all (λ w. ltb w nodes) ws → CleanChildren nodes ws r
+children_clean ws h e = record { zeros = λ t. (each_clean ws h (sym e ∙ t)).0; linked = λ t. (each_clean ws h (sym e ∙ t)).1 }
 
 -- ---- names that rise: `low` is above the last one passed
 pub record Climbed (f : ℕ → ℕ) (ws : List ℕ) (low i : ℕ) : Type 0 where
@@ -98,10 +87,6 @@ pub record FieldsPassed (nodes : ℕ) (ws : List ℕ) (low i : ℕ) : Type 0 whe
   pub zeros : Passed (is_zero field_zero) ws i
   pub linked : Passed (is_below nodes child) ws i
   pub climbed : Climbed field_name ws low i
-
-module _ {table nodes : ℕ} {ws : List ℕ} where
-  pub fields_stopped : CleanFields table nodes ws false
-  fields_stopped = record { zeros = untrue; linked = untrue; named = untrue; rises = untrue }
 
 module _ {nodes : ℕ} {ws : List ℕ} where
   pub fields_start : nodes ≤ 4096 → FieldsPassed nodes ws 0 0

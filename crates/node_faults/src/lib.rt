@@ -1,5 +1,5 @@
-// The faults of a node's words: 3 where they aren't the words of any node, 4 where a child or a name isn't there, 5 where names
-// don't rise. `head_fits` judges a head alone and `fault` a whole node, which hands the words after the head, as their own
+// The faults of a node's words: malformed where they aren't the words of any node, out of range where a child or a name isn't
+// there, unordered where names don't rise. `head_fits` judges a head alone and `check_node` a whole node, which hands the words after the head, as their own
 // stretch, to the function for what its kind has there. types' specs/Fault.antt says the faults in the order of these tests. Most
 // nodes have none, and `clean` sees that in one pass.
 #![tactic(auto)]
@@ -7,12 +7,13 @@
 ghost use Rattle.std.specs.Prelude.{◌+◌, ◌-◌, ◌*◌, ◌≡◌, ◌∷◌, map, true, false, length, get_or};
 ghost use Rattle.words.specs.Words.{bit, child, child_zero, field_name, field_zero};
 ghost use Rattle.types.specs.Kind.{kind_of, disc, attr_set, named, children, code, fields, name};
-ghost use Rattle.types.specs.Out.{number};
+ghost use Rattle.types.specs.Out.{checked};
 ghost use Rattle.types.specs.Node.{below, rising, decode};
 ghost use Rattle.types.specs.Fault.{head_fits, each_zero, first, fault};
 ghost use Rattle.node_faults.specs.Inner.{within, count_fits, body_fault, kind_fault};
 ghost use Rattle.node_faults.specs.Inner.{CleanChildren, CleanFields, Clean, CleanBody};
 
+use types::Refusal;
 use types::arc_ty::{Head, child, child_zero, wide};
 use types::attrset::{field_name, field_optional, field_zero};
 
@@ -60,28 +61,14 @@ pub fn head_fits(head: Head) -> bool
 fn children_zero(words: &[u32]) -> bool
     ensures { result ≡ each_zero child_zero words.now }
 {
-    let mut i = 0;
-    while i < words.len() {
-        if child_zero(words[i]) != 0 {
-            return false;
-        }
-        i += 1;
-    }
-    true
+    words.iter().all(|word| child_zero(*word) == 0)
 }
 
 // Whether the zero field is zero in each field word.
 fn fields_zero(words: &[u32]) -> bool
     ensures { result ≡ each_zero field_zero words.now }
 {
-    let mut i = 0;
-    while i < words.len() {
-        if field_zero(words[i]) != 0 {
-            return false;
-        }
-        i += 1;
-    }
-    true
+    words.iter().all(|word| field_zero(*word) == 0)
 }
 
 fn child_number(word: u32) -> usize
@@ -94,76 +81,58 @@ fn child_number(word: u32) -> usize
 fn children_below(words: &[u32], nodes: usize) -> bool
     ensures { result ≡ below nodes (map child words.now) }
 {
-    let mut i = 0;
-    while i < words.len() {
-        if child_number(words[i]) >= nodes {
-            return false;
-        }
-        i += 1;
-    }
-    true
+    words.iter().all(|word| child_number(*word) < nodes)
 }
 
 // Whether each field's name is one of the table's.
 fn names_below(words: &[u32], names: usize) -> bool
     ensures { result ≡ below names (map field_name words.now) }
 {
-    let mut i = 0;
-    while i < words.len() {
-        if field_name(words[i]) >= names {
-            return false;
-        }
-        i += 1;
-    }
-    true
+    words.iter().all(|word| field_name(*word) < names)
 }
 
 // Whether each field's name has a higher number than the one before.
 fn names_rise(words: &[u32]) -> bool
     ensures { result ≡ rising (map field_name words.now) }
 {
-    let mut i = 1;
-    while i < words.len() {
-        if field_name(words[i - 1]) >= field_name(words[i]) {
-            return false;
-        }
-        i += 1;
-    }
-    true
+    words.is_sorted_by(|before, word| field_name(*before) < field_name(*word))
 }
 
-// The number of the first test that fails, 0 where none does.
-fn first(fits: bool, linked: bool, rises: bool) -> u32
+// The refusal of the first test that fails.
+fn first(fits: bool, linked: bool, rises: bool) -> Result<(), Refusal>
     ensures { result ≡ first fits linked rises }
 {
     if !fits {
-        return 3;
+        Err(Refusal::MalformedNode)
+    } else if !linked {
+        Err(Refusal::OutOfRange)
+    } else if !rises {
+        Err(Refusal::UnorderedFields)
+    } else {
+        Ok(())
     }
-    if !linked {
-        return 4;
-    }
-    if !rises {
-        return 5;
-    }
-    0
 }
 
 // The first word, and 0 where there is none.
 fn first_word(body: &[u32]) -> u32
     ensures { result ≡ get_or body.now 0 0 }
 {
-    if body.len() == 0 { 0 } else { body[0] }
+    body.first().copied().unwrap_or(0)
 }
 
 // One word: a code. No child or name is looked up.
-fn code_fault(body: &[u32]) -> u32
+fn code_fault(body: &[u32]) -> Result<(), Refusal>
     ensures { result ≡ body_fault 0 0 code false body.now }
 {
-    if first_word(body) < 8 { 0 } else { 3 }
+    if first_word(body) < 8 {
+        Ok(())
+    } else {
+        Err(Refusal::MalformedNode)
+    }
 }
 
 // Child words.
-fn children_fault(body: &[u32], nodes: usize) -> u32
+fn children_fault(body: &[u32], nodes: usize) -> Result<(), Refusal>
     ensures { result ≡ body_fault 0 nodes children false body.now }
 {
     let fits = children_zero(body);
@@ -175,16 +144,11 @@ fn children_fault(body: &[u32], nodes: usize) -> u32
 fn field_count(dynamic: bool, count: usize) -> usize
     ensures { result ≡ count - bit dynamic }
 {
-    if dynamic {
-        if count > 0 {
-            return count - 1;
-        }
-    }
-    count
+    count.saturating_sub(usize::from(dynamic))
 }
 
 // Field words, then a child word where the set has a dynamic part. Each of them has a child in the same bits.
-fn fields_fault(dynamic: bool, body: &[u32], nodes: usize, names: usize) -> u32
+fn fields_fault(dynamic: bool, body: &[u32], nodes: usize, names: usize) -> Result<(), Refusal>
     ensures { result ≡ body_fault names nodes fields dynamic body.now }
 {
     let k = field_count(dynamic, body.len());
@@ -195,28 +159,34 @@ fn fields_fault(dynamic: bool, body: &[u32], nodes: usize, names: usize) -> u32
 }
 
 // One field word as in a set, but it can't be optional.
-fn name_fault(body: &[u32], nodes: usize, names: usize) -> u32
+fn name_fault(body: &[u32], nodes: usize, names: usize) -> Result<(), Refusal>
     ensures { result ≡ body_fault names nodes name false body.now }
 {
     let word = first_word(body);
     if field_optional(word) {
-        return 3;
+        return Err(Refusal::MalformedNode);
     }
     fields_fault(false, body, nodes, names)
 }
 
 // The fault of a body under a head of this kind that fits and counts its words.
-fn body_fault(kind: u32, dynamic: bool, body: &[u32], nodes: usize, names: usize) -> u32
+fn body_fault(
+    kind: u32,
+    dynamic: bool,
+    body: &[u32],
+    nodes: usize,
+    names: usize,
+) -> Result<(), Refusal>
     ensures { result ≡ kind_fault names nodes (kind_of kind) dynamic body.now }
 {
     if kind > Head::NEG {
-        return 3;
+        return Err(Refusal::MalformedNode);
     }
     match kind {
-        Head::BOTTOM => 0,
-        Head::TOP => 0,
+        Head::BOTTOM => Ok(()),
+        Head::TOP => Ok(()),
         Head::PRIMITIVE => code_fault(body),
-        Head::TY_VAR => 0,
+        Head::TY_VAR => Ok(()),
         Head::ATTR_SET => fields_fault(dynamic, body, nodes, names),
         Head::NAMED => name_fault(body, nodes, names),
         _ => children_fault(body, nodes),
@@ -227,17 +197,7 @@ fn body_fault(kind: u32, dynamic: bool, body: &[u32], nodes: usize, names: usize
 fn all_below(words: &[u32], nodes: usize) -> bool
     ensures { CleanChildren nodes words.now result }
 {
-    if nodes > 4096 {
-        return false;
-    }
-    let mut i = 0;
-    while i < words.len() {
-        if wide(words[i]) >= nodes {
-            return false;
-        }
-        i += 1;
-    }
-    true
+    nodes <= 4096 && words.iter().all(|word| wide(*word) < nodes)
 }
 
 // The zero field of a field word above its child, as one number: below 4,096 only where the zero field is zero.
@@ -255,18 +215,12 @@ fn fields_clean(words: &[u32], nodes: usize, names: usize) -> bool
         return false;
     }
     let mut low = 0;
-    let mut i = 0;
-    while i < words.len() {
-        let word = words[i];
-        if zero_and_child(word) >= nodes {
-            return false;
-        }
-        let name = field_name(word);
-        if name < low {
+    for word in words {
+        let name = field_name(*word);
+        if zero_and_child(*word) >= nodes || name < low {
             return false;
         }
         low = name + 1;
-        i += 1;
     }
     low <= names
 }
@@ -275,10 +229,7 @@ fn fields_clean(words: &[u32], nodes: usize, names: usize) -> bool
 fn children_clean(low: usize, high: usize, body: &[u32], nodes: usize) -> bool
     ensures { Clean (within low high (length body.now)) (body_fault 0 nodes children false body.now) result }
 {
-    if !within(low, high, body.len()) {
-        return false;
-    }
-    all_below(body, nodes)
+    within(low, high, body.len()) && all_below(body, nodes)
 }
 
 // Whether a body is a set's, without fault.
@@ -296,10 +247,10 @@ fn set_clean(dynamic: bool, body: &[u32], nodes: usize, names: usize) -> bool
 fn name_clean(body: &[u32], nodes: usize, names: usize) -> bool
     ensures { CleanBody names nodes (disc named) false body.now result }
 {
-    if body.len() != 1 {
+    let [word] = body else {
         return false;
-    }
-    !field_optional(body[0]) & fields_clean(body, nodes, names)
+    };
+    !field_optional(*word) & fields_clean(body, nodes, names)
 }
 
 // Whether a body has no fault under a head of this kind, whose flags are 0.
@@ -309,7 +260,7 @@ fn body_clean(kind: u32, body: &[u32], nodes: usize, names: usize) -> bool
     match kind {
         Head::BOTTOM => body.len() == 0,
         Head::TOP => body.len() == 0,
-        Head::PRIMITIVE => (body.len() == 1) & (code_fault(body) == 0),
+        Head::PRIMITIVE => (body.len() == 1) & code_fault(body).is_ok(),
         Head::TY_VAR => body.len() == 1,
         Head::LIST => children_clean(1, 1, body, nodes),
         Head::LAMBDA => children_clean(2, 2, body, nodes),
@@ -339,29 +290,28 @@ fn clean(head: Head, body: &[u32], nodes: usize, names: usize) -> bool
 }
 
 // The first fault of a head and the words after it.
-fn node_fault(head: Head, body: &[u32], nodes: usize, names: usize) -> u32
+fn node_fault(head: Head, body: &[u32], nodes: usize, names: usize) -> Result<(), Refusal>
     ensures { result ≡ fault names nodes (head.word ∷ body.now) }
 {
     if !head_fits(head) {
-        return 3;
+        return Err(Refusal::MalformedNode);
     }
     if body.len() != head.count() {
-        return 3;
+        return Err(Refusal::MalformedNode);
     }
     body_fault(head.kind(), head.dynamic(), body, nodes, names)
 }
 
-// The first fault of words that are to be a node, after so many nodes and under a table of so many names; 0 for none.
-pub fn fault(node: &[u32], nodes: usize, names: usize) -> u32
-    ensures { result ≡ number (decode names nodes node.now) }
+// Whether words may be a node, after so many nodes and under a table of so many names; else their first fault.
+pub fn check_node(node: &[u32], nodes: usize, names: usize) -> Result<(), Refusal>
+    ensures { result ≡ checked (decode names nodes node.now) }
 {
-    if node.len() == 0 {
-        return 3;
-    }
-    let head = Head { word: node[0] };
-    let body = &node[1..];
+    let Some((word, body)) = node.split_first() else {
+        return Err(Refusal::MalformedNode);
+    };
+    let head = Head { word: *word };
     if clean(head, body, nodes, names) {
-        return 0;
+        return Ok(());
     }
     node_fault(head, body, nodes, names)
 }

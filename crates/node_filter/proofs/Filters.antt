@@ -9,7 +9,9 @@ use native.Mathlib.Omega.{arith}
 use lib.ListN.{length}
 use borrow.Author.Tests.{not-true}
 use Rattle.bits.specs.Bits.{has, Put}
-use Rattle.types.specs.Out.{ok, refuse}
+use Rattle.std.specs.Prelude.{Result, Ok, Err, None}
+use Rattle.types.specs.declared.refusal.Refusal.{Refusal}
+use Rattle.types.specs.declared.refusal.Refusal.TheVariants as refusal
 use Rattle.types.specs.Node.{Node, encode, node_dec}
 use Rattle.types.specs.Arena.{Arena, at, find}
 use Rattle.types.specs.Memory.{words_of, starts_of, counters_of, Holds}
@@ -23,9 +25,6 @@ use Rattle.types.proofs.Memories.{unique}
 use Rattle.node_store.specs.Inner.Stored.{Lent, InRange, NodeAt, Sought, IsThere, FoundIn}
 use Rattle.node_store.specs.Inner.Added.{Fresh, Absent, Interns}
 use Rattle.node_store.specs.Intern.{has_room, intern, left}
-use Rattle.node_store.specs.declared.stored.Found.TheVariants as found
-use Rattle.node_store.specs.declared.added.Interned.{Interned}
-use Rattle.node_store.specs.declared.added.Interned.TheVariants as interned
 use Rattle.node_store.proofs.Additions.{fresh_searched, intern_stored, intern_full, intern_new, finished}
 use Rattle.node_store.proofs.Interning.{intern_holds}
 use Rattle.node_filter.specs.Inner.Hash.{hash_of, BitIn}
@@ -105,7 +104,7 @@ module _ {w s : List ℕ} {c : Counters} where
     first_all l = record { long = C.long; is = λ t a H. record { long = C.long; each = λ i k. C.each t a H i (omega (arith, H.nodes)) } }
 
 -- ---- a node of which a bit isn't set is found nowhere
-pub unset : {w s : List ℕ} {c : Counters} {ws f : List ℕ} {h : ℕ} {b : Bool} → CoversLent w s c f → h ≡ hash_of ws → MayHave f h b → not b ≡ true → FoundIn w s c ws found.Nothing
+pub unset : {w s : List ℕ} {c : Counters} {ws f : List ℕ} {h : ℕ} {b : Bool} → CoversLent w s c f → h ≡ hash_of ws → MayHave f h b → not b ≡ true → FoundIn w s c ws None
 unset {ws = ws} {f} {h} {b} C e M z = record { is = λ t a x H p q. go a x (C.is t a H) q (find x a) refl }
   where
     go : (a : Arena) (x : Node) → Covers f a → ws ≡ encode x → (o : Option ℕ) → find x a ≡ o → none ≡ o
@@ -116,15 +115,15 @@ unset {ws = ws} {f} {h} {b} C e M z = record { is = λ t a x H p q. go a x (C.is
         absurd (true_false (sym (M.is bits) ∙ not-true b z))
 
 -- ---- after an answer
-pub covers_kept : {w s : List ℕ} {c : Counters} {f : List ℕ} {n : ℕ} → CoversLent w s c f → CoversAfter w s (interned.Node n c) f
-covers_kept {w} {s} {c} {f} C = record { is = λ m d e. let q : c ≡ d = cc in subst (λ (k : Counters). CoversLent w s k f) q C }
+pub covers_kept : {w s : List ℕ} {c : Counters} {f : List ℕ} {n : ℕ} → CoversLent w s c f → CoversAfter w s (Ok (n, c)) f
+covers_kept {w} {s} {c} {f} {n} C = record { is = λ m d e. let p : ◌≡◌ {A = ℕ × Counters} (n, c) (m, d) = cc in let q : c ≡ d = ap (λ (v : ℕ × Counters). v.1) p in subst (λ (k : Counters). CoversLent w s k f) q C }
 
 -- of a refusal nothing is said
-pub covers_refused : {w s : List ℕ} {e : ℕ} {f : List ℕ} → CoversAfter w s (interned.Refused e) f
+pub covers_refused : {w s : List ℕ} {e : Refusal} {f : List ℕ} → CoversAfter w s (Err e) f
 covers_refused = record { is = λ n d q. let z : ◌≡◌ {A = ℕ} 0 1 = cc in absurd (omega arith) }
 
 -- the counters of an answer, told with another number
-pub covers_told : {w s : List ℕ} {f : List ℕ} {r : Interned} {m n : ℕ} {d : Counters} → CoversAfter w s r f → r ≡ interned.Node m d → CoversAfter w s (interned.Node n d) f
+pub covers_told : {w s : List ℕ} {f : List ℕ} {r : Result (ℕ × Counters) Refusal} {m n : ℕ} {d : Counters} → CoversAfter w s r f → r ≡ Ok (m, d) → CoversAfter w s (Ok (n, d)) f
 covers_told {m = m} {d = d} C q = covers_kept (C.is m d q)
 
 -- an arena without a node
@@ -133,7 +132,7 @@ covers_empty {f = f} H l = record { long = l; is = λ t a K. subst (Covers f) (u
 
 -- the node is new, so memory then holds it before the others
 module _ {w s : List ℕ} {c : Counters} {ws : List ℕ} (F : Fresh w s c ws) (A : Absent w s c ws) {w' s' : List ℕ} where
-  added_holds : {n : ℕ} {d : Counters} → Interns w s c ws w' s' (interned.Node n d) → Holds F.table w' s' d (F.node ∷ F.view)
+  added_holds : {n : ℕ} {d : Counters} → Interns w s c ws w' s' (Ok (n, d)) → Holds F.table w' s' d (F.node ∷ F.view)
   unfolding reply_of
   added_holds {n} {d} I = go (has_room (length w) (length s) (x ∷ a)) refl
     where
@@ -146,13 +145,13 @@ module _ {w s : List ℕ} {c : Counters} {ws : List ℕ} (F : Fresh w s c ws) (A
       not_there : find x a ≡ none
       not_there = sym (A.is.is F.table a x F.holds (well_parts F.table (length a) x F.is.good).formed_so F.is.words)
 
-      reply_is : left c (interned.Node n d) w' s' ≡ reply_of w s c (intern (length w) (length s) x a)
+      reply_is : left c (Ok (n, d)) w' s' ≡ reply_of w s c (intern (length w) (length s) x a)
       reply_is = I.is F.table a x F.holds F.is
 
       go : (b : Bool) → has_room (length w) (length s) (x ∷ a) ≡ b → Holds F.table w' s' d (x ∷ a)
       go true q =
           let o = intern_new (length w) (length s) x a not_there q in
-          let e : reply (ok n) d w' s' ≡ reply (ok (length a)) (counters_of (x ∷ a)) (words_of (length w) (x ∷ a)) (starts_of (length s) (x ∷ a)) = reply_is ∙ ap (reply_of w s c) o in
+          let e : reply (Ok n) d w' s' ≡ reply (Ok (length a)) (counters_of (x ∷ a)) (words_of (length w) (x ∷ a)) (starts_of (length s) (x ∷ a)) = reply_is ∙ ap (reply_of w s c) o in
           let cd : counters_of (x ∷ a) ≡ d = cc in
           let ww : words_of (length w) (x ∷ a) ≡ w' = cc in
           let ss : starts_of (length s) (x ∷ a) ≡ s' = cc in
@@ -161,11 +160,11 @@ module _ {w s : List ℕ} {c : Counters} {ws : List ℕ} (F : Fresh w s c ws) (A
           (subst (λ (v : List ℕ). Holds F.table v (starts_of (length s) (x ∷ a)) (counters_of (x ∷ a)) (x ∷ a)) ww
           (intern_holds F.table w s c x a (length a) (x ∷ a) F.holds F.is.good o)))
       go false q =
-          let e : reply (ok n) d w' s' ≡ reply (refuse 7) c w s = reply_is ∙ ap (reply_of w s c) (intern_full (length w) (length s) x a not_there q) in
+          let e : reply (Ok n) d w' s' ≡ reply (Err refusal.NoRoom) c w s = reply_is ∙ ap (reply_of w s c) (intern_full (length w) (length s) x a not_there q) in
           let z : ◌≡◌ {A = ℕ} 0 1 = cc in
           absurd (omega arith)
 
-  pub covers_added : {r : Interned} {f g : List ℕ} {h : ℕ} → CoversLent w s c f → h ≡ hash_of ws → Sets f h g → Interns w s c ws w' s' r → CoversAfter w' s' r g
+  pub covers_added : {r : Result (ℕ × Counters) Refusal} {f g : List ℕ} {h : ℕ} → CoversLent w s c f → h ≡ hash_of ws → Sets f h g → Interns w s c ws w' s' r → CoversAfter w' s' r g
   covers_added {r} {f} {g} C e S I = record {
     is = λ n d q.
         let H = added_holds (subst (Interns w s c ws w' s') q I) in
@@ -179,7 +178,7 @@ module _ {w s : List ℕ} {c : Counters} {ws : List ℕ} {m n : ℕ} (q : m ≡ 
   near_sought F = record { lent = (fresh_searched F).lent; inside = omega (arith, q, k); headed = (fresh_searched F).headed }
 
   -- it has the words, so it is what interning answers
-  pub near_stored : {r : Bool} → IsThere w s c m ws r → r ≡ true → Interns w s c ws w s (interned.Node n c)
+  pub near_stored : {r : Bool} → IsThere w s c m ws r → r ≡ true → Interns w s c ws w s (Ok (n, c))
   unfolding reply_of
   near_stored {r} T h = record {
     is = λ t a x H N.

@@ -9,10 +9,10 @@ ghost use Rattle.node_filter.specs.Inner.Hash.{mixed, hash_of, BitIn};
 ghost use Rattle.node_filter.specs.Inner.Filter.{MayHave, Sets, CoversLent, CoversAfter};
 
 use bits::{put_row, test_row};
-use node_store::added::{Interned, add_node};
-use node_store::stored::{Found, find, is_there, node_at};
-use types::Counters;
+use node_store::added::add_node;
+use node_store::stored::{find, is_there, node_at};
 use types::arc_ty::wide;
+use types::{Counters, Refusal};
 
 // One more word of a node in its hash. The factor is 2^32 over the golden ratio: products of near numbers lie far apart.
 fn mix(x: u32, h: u32) -> u32
@@ -26,10 +26,8 @@ fn mix(x: u32, h: u32) -> u32
 pub fn hash(node: &[u32]) -> u32
     ensures { result ≡ hash_of node.now }
 {
-    let mut h: u32 = 0;
-    let mut i = node.len();
-    while i > 0 {
-        i -= 1;
+    let mut h = 0;
+    for i in (0..node.len()).rev() {
         h = mix(node[i], h);
     }
     h
@@ -74,14 +72,14 @@ pub fn find_filtered(
     node: &[u32],
     h: u32,
     filter: &[u64; 2048],
-) -> Found
+) -> Option<usize>
     requires searched { Searched words.now starts.now c node.now }
     requires covers_lent { CoversLent words.now starts.now c filter.now }
     requires h_value { h ≡ hash_of node.now }
     ensures { FoundIn words.now starts.now c node.now result }
 {
     if !may_have(filter, h) {
-        return Found::Nothing;
+        return None;
     }
     find(words, starts, c, node)
 }
@@ -93,16 +91,15 @@ pub fn intern_filtered(
     c: Counters,
     node: &[u32],
     filter: &mut [u64; 2048],
-) -> Interned
+) -> Result<(u32, Counters), Refusal>
     requires fresh { Fresh words.old starts.old c node.now }
     requires covers_lent { CoversLent words.old starts.old c filter.old }
     ensures interns { Interns words.old starts.old c node.now words.new starts.new result }
     ensures covers_after { CoversAfter words.new starts.new result filter.new }
 {
     let h = hash(node);
-    let found = find_filtered(words, starts, c, node, h, filter);
-    if let Found::At(i) = found {
-        return Interned::Node(i as u32, c);
+    if let Some(i) = find_filtered(words, starts, c, node, h, filter) {
+        return Ok((i as u32, c));
     }
     set_bits(filter, h);
     add_node(words, starts, c, node)
@@ -116,7 +113,7 @@ pub fn intern_near(
     node: &[u32],
     near: u32,
     filter: &mut [u64; 2048],
-) -> Interned
+) -> Result<(u32, Counters), Refusal>
     requires fresh { Fresh words.old starts.old c node.now }
     requires near_lt_nodes { near < c.nodes }
     requires covers_lent { CoversLent words.old starts.old c filter.old }
@@ -124,7 +121,7 @@ pub fn intern_near(
     ensures covers_after { CoversAfter words.new starts.new result filter.new }
 {
     if is_there(words, starts, c, wide(near), node) {
-        return Interned::Node(near, c);
+        return Ok((near, c));
     }
     intern_filtered(words, starts, c, node, filter)
 }
@@ -135,9 +132,7 @@ pub fn set_all_bits(words: &[u32], starts: &[u32], c: Counters, filter: &mut [u6
     requires filter_len { length filter.old ≡ 2048 }
     ensures { CoversLent words.now starts.now c filter.new }
 {
-    let mut n = 0;
-    while n < c.nodes {
+    for n in 0..c.nodes {
         set_bits(filter, hash(node_at(words, starts, c, n)));
-        n += 1;
     }
 }

@@ -1,59 +1,44 @@
 -- The three answers, as the code tells them apart.
-use Prim.Native.Nat.{ℕ, ◌<◌, ◌≤◌}
-use mathlib.Core.Path.{◌≡◌, refl, sym, ap, ap₂, ◌∙◌}
+use Prim.Native.Nat.{ℕ}
+use mathlib.Core.Path.{◌≡◌, refl, sym, ◌∙◌}
 use mathlib.Core.Bool.{Bool, true, false}
+use mir.Val.{bool_byte}
 use native.Mathlib.Omega.{arith}
+use Rattle.std.specs.Ordering.{is_ne, MatchOrdering}
 use Rattle.words.specs.Words.{bit}
-use Rattle.types.specs.Order.{order, ordering_then}
-use Rattle.types.specs.declared.Ordering.{Ordering}
-use Rattle.types.specs.declared.Ordering.TheVariants.{Less, Equal, Greater}
-use Rattle.types.proofs.Orders.{order_less, order_equal, order_greater}
+use Rattle.types.specs.Order.{ordering_then}
+use Rattle.std.specs.declared.cmp.Ordering.{Ordering}
+use Rattle.std.specs.declared.cmp.Ordering.TheVariants.{Less, Equal, Greater}
 
--- what a `let Ordering::Equal = o else` knows of o in its `else`
-abbrev pub Unequal : Ordering → Type 0
-Unequal o = o ≡ Equal → ⊥
-
-first : (o p : Ordering) → Unequal o → ordering_then o p ≡ o
+first : (o p : Ordering) {q : Bool} → q ≡ is_ne o → q ≡ true → ordering_then o p ≡ o
 unfolding ordering_then
-first Less p u = refl
-first Equal p u = absurd (u refl)
-first Greater p u = refl
+first Less p e f = refl
+first Equal p e f = let z : ◌≡◌ {A = ℕ} 0 1 = cc in absurd (omega arith)
+first Greater p e f = refl
 
-module _ {w o : Ordering} (p : Ordering) (e : w ≡ ordering_then o p) where
+settled : (o p : Ordering) {q : Bool} → q ≡ is_ne o → q ≡ false → ordering_then o p ≡ p
+unfolding ordering_then
+settled Less p e f = let z : ◌≡◌ {A = ℕ} 0 1 = cc in absurd (omega arith)
+settled Equal p e f = refl
+settled Greater p e f = let z : ◌≡◌ {A = ℕ} 0 1 = cc in absurd (omega arith)
+
+module _ {w : Ordering} (o p : Ordering) (e : w ≡ ordering_then o p) {q : Bool} (n : q ≡ is_ne o) where
   -- an answer that leaves nothing open is the whole answer
-  pub told : Unequal o → o ≡ w
-  told u = sym (e ∙ first o p u)
+  pub told : q ≡ true → o ≡ w
+  told u = sym (e ∙ first o p n u)
 
   -- one that leaves all open lets the next one answer
-  pub passed : o ≡ Equal → w ≡ p
-  unfolding ordering_then
-  passed z = e ∙ ap (λ (u : Ordering). ordering_then u p) z
+  pub passed : q ≡ false → w ≡ p
+  passed z = e ∙ settled o p n z
 
--- ---- numbers
-module _ {m n : ℕ} where
-  pub number_less : m < n → Less ≡ order m n
-  number_less h = sym (order_less m n h)
+-- what `then_with` answers, where its closure answers p
+pub then_run : {P : Type 0} (o : Ordering) {p r : Ordering} → MatchOrdering o (r ≡ Less) P (r ≡ Greater) → (P → r ≡ p) → r ≡ ordering_then o p
+unfolding ordering_then
+then_run Less m f = m
+then_run Equal m f = f m
+then_run Greater m f = m
 
-  pub number_greater : n < m → Greater ≡ order m n
-  number_greater h = sym (order_greater m n h)
-
-  pub number_equal : n ≤ m → m ≤ n → Equal ≡ order m n
-  number_equal h k = sym (order_equal m n (omega arith))
-
-  -- the same numbers under other names
-  pub number_same : {x y : ℕ} {o : Ordering} → x ≡ m → y ≡ n → o ≡ order x y → o ≡ order m n
-  number_same p q e = e ∙ ap₂ order p q
-
--- ---- flags
-module _ {a b : Bool} where
-  pub flags_equal : a ≡ true → b ≡ true → Equal ≡ order (bit a) (bit b)
-  flags_equal p q = rw (p, q) (sym (order_equal 1 1 refl))
-
-  pub flags_greater : a ≡ true → b ≡ false → Greater ≡ order (bit a) (bit b)
-  flags_greater p q = rw (p, q) (sym (order_greater 1 0 (omega arith)))
-
-  pub flags_less : a ≡ false → b ≡ true → Less ≡ order (bit a) (bit b)
-  flags_less p q = rw (p, q) (sym (order_less 0 1 (omega arith)))
-
-  pub flags_same : a ≡ false → b ≡ false → Equal ≡ order (bit a) (bit b)
-  flags_same p q = rw (p, q) (sym (order_equal 0 0 refl))
+-- a flag as one bit
+pub bit_of : (b : Bool) → bool_byte b ≡ bit b
+bit_of true = refl
+bit_of false = refl

@@ -13,7 +13,7 @@ use Rattle.types.specs.Kind as kinds
 use Rattle.types.specs.Kind.{Kind, disc, kind_of, body_count}
 use Rattle.types.specs.Node.{positive, negative, Field, field, primitive, list, lambda, attrset, named, Tag, members, bound, var, neg, form, Node, node, tag, kind, field_names, names, child_words_in, formed, linked, rising, well_in}
 use Rattle.types.specs.Order.{order, lexicographic, TotalOrder}
-use Rattle.types.specs.declared.Ordering.TheVariants.{Equal}
+use Rattle.std.specs.declared.cmp.Ordering.TheVariants.{Equal}
 use Rattle.types.proofs.Tests.{and_true}
 use Rattle.types.proofs.Orders.{order_total, Ranking, total_ranking, ranking_refl, by_ranking, then_ranking, then_equal, keys_total, lexicographic_total}
 use Rattle.types.proofs.KindNumbers.{kind_of_disc}

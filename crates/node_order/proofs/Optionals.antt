@@ -1,5 +1,5 @@
 -- Two lists of fields are compared by the names of their optional fields, from one optional field to the next.
-use Prim.Native.Nat.{ℕ, suc, ◌+◌, ◌<◌, ◌≤◌}
+use Prim.Native.Nat.{ℕ, suc, ◌+◌, ◌<◌, ◌≤◌, max}
 use mathlib.Core.Path.{◌≡◌, refl, sym, ap, ap₂, ◌∙◌}
 use mathlib.Core.Bool.{Bool, true, false}
 use mathlib.Core.List.{List, [], ◌∷◌, map}
@@ -7,15 +7,17 @@ use native.Mathlib.Omega.{arith}
 use native.Mathlib.Numerals.{add-one}
 use lib.ListN.{length, get_or, drop, drop_of_length-le}
 use lib.Seq.{drop-cons}
+use Rattle.std.specs.Ordering.{nat_cmp, is_ne}
 use Rattle.words.specs.Words.{field_optional, field_name}
 use Rattle.types.specs.Node.{field, field_of}
 use Rattle.types.specs.Order.{order, lexicographic, ordering_then}
-use Rattle.types.specs.declared.Ordering.{Ordering}
-use Rattle.types.specs.declared.Ordering.TheVariants.{Less, Equal, Greater}
+use Rattle.std.specs.declared.cmp.Ordering.{Ordering}
+use Rattle.std.specs.declared.cmp.Ordering.TheVariants.{Less, Equal, Greater}
 use Rattle.node_order.specs.NodeOrder.{optional_names}
 use Rattle.node_order.specs.WordsOrder.{optional_in}
 use Rattle.node_order.specs.Inner.{optional_order, NextOptional}
-use Rattle.node_order.proofs.Answers.{Unequal, told, passed}
+use Rattle.types.proofs.Orders.{cmp_order}
+use Rattle.node_order.proofs.Answers.{told, passed}
 
 module _ (fs : List ℕ) (i : ℕ) (h : i < length fs) where
   front : {o : Bool} → field_optional (get_or fs i 0) ≡ o → optional_in (drop i fs) ≡ optional_names (field o (field_name (get_or fs i 0)) ∷ map field_of (drop (suc i) fs))
@@ -50,8 +52,10 @@ module _ {fs : List ℕ} {from : ℕ} where
     pub skipped_found : {q : Bool} → i < length fs → q ≡ field_optional (get_or fs i 0) → q ≡ true → NextOptional fs from i
     skipped_found h e f = record { low = P.low; passed = P.none; there = λ k. sym e ∙ f }
 
-    pub skipped_all : length fs ≤ i → NextOptional fs from i
-    skipped_all h = record { low = P.low; passed = P.none; there = λ k. absurd (omega arith) }
+    pub skipped_all : {r : ℕ} → length fs ≤ i → r ≡ max (length fs) from → NextOptional fs from r
+    skipped_all {r} h e =
+        let d : optional_in (drop r fs) ≡ optional_in (drop i fs) = optional_none fs r (omega arith) ∙ sym (optional_none fs i h) in
+        record { low = omega arith; passed = P.none ∙ sym d; there = λ k. absurd (omega arith) }
 
 -- ---- the optional names before i and j are the same
 pub record Facing (a b : List ℕ) (i j : ℕ) : Type 0 where
@@ -65,20 +69,20 @@ module _ {a b : List ℕ} where
   facing_start A B = record { rest = ap₂ (lexicographic order) A.passed B.passed; left = A.there; right = B.there }
 
   module _ {i j : ℕ} (F : Facing a b i j) where
-    module _ {m n : ℕ} {o : Ordering} (h : i < length a) (k : j < length b) (p : m ≡ field_name (get_or a i 0)) (q : n ≡ field_name (get_or b j 0)) (e : o ≡ order m n) where
+    module _ {m n : ℕ} {o : Ordering} (h : i < length a) (k : j < length b) (p : m ≡ field_name (get_or a i 0)) (q : n ≡ field_name (get_or b j 0)) (e : o ≡ nat_cmp m n) where
       next : optional_order a b ≡ ordering_then o (lexicographic order (optional_in (drop (suc i) a)) (optional_in (drop (suc j) b)))
       unfolding lexicographic
       next =
           F.rest
           ∙ ap₂ (lexicographic order) (optional_here a i h (F.left h)) (optional_here b j k (F.right k))
-          ∙ ap (λ (w : Ordering). ordering_then w (lexicographic order (optional_in (drop (suc i) a)) (optional_in (drop (suc j) b)))) (sym (ap₂ order p q) ∙ sym e)
+          ∙ ap (λ (w : Ordering). ordering_then w (lexicographic order (optional_in (drop (suc i) a)) (optional_in (drop (suc j) b)))) (sym (e ∙ cmp_order m n ∙ ap₂ order p q))
 
-      pub facing_told : Unequal o → o ≡ optional_order a b
-      facing_told = told _ next
+      pub facing_told : {u : Bool} → u ≡ is_ne o → u ≡ true → o ≡ optional_order a b
+      facing_told = told _ _ next
 
-      pub facing_more : {s t : ℕ} → o ≡ Equal → NextOptional a (i + 1) s → NextOptional b (j + 1) t → Facing a b s t
-      facing_more u A B = record {
-        rest = passed _ next u ∙ ap₂ (lexicographic order) (rw (← add-one) A.passed) (rw (← add-one) B.passed);
+      pub facing_more : {u : Bool} {s t : ℕ} → u ≡ is_ne o → u ≡ false → NextOptional a (i + 1) s → NextOptional b (j + 1) t → Facing a b s t
+      facing_more u w A B = record {
+        rest = passed _ _ next u w ∙ ap₂ (lexicographic order) (rw (← add-one) A.passed) (rw (← add-one) B.passed);
         left = A.there;
         right = B.there;
       }

@@ -5,7 +5,7 @@ use mathlib.Core.List.{List, [], ◌∷◌}
 use native.Mathlib.Omega.{arith}
 use lib.ListN.{length, get_or, take, drop, length-drop}
 use lib.Seq.{take_all, length-take-le}
-use Rattle.types.specs.declared.Ordering.{Ordering}
+use Rattle.std.specs.declared.cmp.Ordering.{Ordering}
 use Rattle.node_order.specs.NodeOrder.{keys_order}
 use Rattle.node_order.specs.Inner.{FieldCount}
 use Rattle.node_order.specs.WordsOrder.{part_keys, body_keys, words_order}
@@ -28,10 +28,6 @@ bodies_told a b F G e = e ∙ ap₂ keys_order (parts_of a F) (parts_of b G)
 pub no_head : (l : List ℕ) → length l ≡ 0 → 0 ≡ get_or l 0 0
 no_head [] e = refl
 no_head (w ∷ l) e = absurd (omega arith)
-
-pub no_body : (l : List ℕ) → length l ≡ 0 → l ≡ drop 1 l
-no_body [] e = refl
-no_body (w ∷ l) e = absurd (omega arith)
 
 pub body_lent : (l : List ℕ) → take (length l - 1) (drop 1 l) ≡ drop 1 l
 body_lent l = take_all (length l - 1) (drop 1 l) (omega (arith, length-drop 1 l))

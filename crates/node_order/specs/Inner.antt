@@ -1,8 +1,8 @@
 -- What the functions that compare parts of two nodes answer.
-use Rattle.std.specs.Prelude.{ℕ, ◌<◌, ◌≤◌, ◌≡◌, Bool, true, false, List, length, get_or, drop}
+use Rattle.std.specs.Prelude.{ℕ, ◌<◌, ◌≤◌, ◌≡◌, true, List, length, get_or, drop}
 use Rattle.words.specs.Words.{head_kind, head_dynamic, field_optional, field_name, child}
 use Rattle.types.specs.Order.{order, lexicographic, by}
-use Rattle.types.specs.declared.Ordering.{Ordering}
+use Rattle.std.specs.declared.cmp.Ordering.{Ordering}
 use Rattle.node_order.specs.NodeOrder.{entry_order}
 use Rattle.node_order.specs.WordsOrder.{entry_of, optional_in, field_count}
 
@@ -10,11 +10,6 @@ use Rattle.node_order.specs.WordsOrder.{entry_of, optional_in, field_count}
 unfoldable pub field_order : ℕ → ℕ → Ordering
 unfolding by entry_order field_name child
 field_order = by entry_of entry_order
-
--- words of a list by whether they are field words; others stand as numbers do
-abbrev pub item_order : Bool → ℕ → ℕ → Ordering
-item_order true = field_order
-item_order false = order
 
 -- lists of field words by their optional names
 unfoldable pub optional_order : List ℕ → List ℕ → Ordering

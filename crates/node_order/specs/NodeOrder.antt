@@ -4,8 +4,8 @@ use Rattle.words.specs.Words.{bit}
 use Rattle.types.specs.Kind.{disc}
 use Rattle.types.specs.Node.{Field, field, Node, node, tag, kind, data_of, names, formed, rising}
 use Rattle.types.specs.Order.{order, lexicographic, by, then_by, reversed}
-use Rattle.types.specs.declared.Ordering.{Ordering}
-use Rattle.types.specs.declared.Ordering.TheVariants.{Less, Equal}
+use Rattle.std.specs.declared.cmp.Ordering.{Ordering}
+use Rattle.std.specs.declared.cmp.Ordering.TheVariants.{Less, Equal}
 
 -- a field's name and its child, by number; the numbers of names stand as the names do
 pub record Entry : Type 0 where

@@ -5,7 +5,7 @@ use Rattle.words.specs.Words.{bit, head_kind, head_open, head_dynamic, field_opt
 use Rattle.types.specs.Kind.{disc, attr_set, named}
 use Rattle.types.specs.Node.{field_of}
 use Rattle.types.specs.Order.{by}
-use Rattle.types.specs.declared.Ordering.{Ordering}
+use Rattle.std.specs.declared.cmp.Ordering.{Ordering}
 use Rattle.node_order.specs.NodeOrder.{Entry, Keys, keys_order, optional_names}
 
 -- what a field word says besides whether the field is optional

@@ -8,10 +8,15 @@ use native.Mathlib.Omega.{arith}
 use mir.Syntax.{w32}
 use mir.Val.{Fits}
 use lib.ListN.{length, set}
+use borrow.Rule.Slice.PartMut.{put_mid}
 use lib.Seq.{paste}
+use Rattle.std.proofs.lemmas.Slice.{put_mid-paste}
 use lib.Dec.{leb}
 use borrow.Author.Tests.{le-leb, leb-true}
-use Rattle.types.specs.Out.{ok, refuse, number}
+use Rattle.std.specs.Prelude as std
+use Rattle.std.specs.Prelude.{Some, None, Ok, Err}
+use Rattle.types.specs.declared.refusal.Refusal.TheVariants as refusal
+use Rattle.types.specs.Out.{checked, option_of}
 use Rattle.types.specs.Node.{Node, encode, decode, IsNode}
 use Rattle.types.specs.Arena.{Arena, find}
 use Rattle.types.specs.Memory.{flat, words_of, starts_of, counters_of, Holds}
@@ -22,24 +27,21 @@ use Rattle.types.proofs.Nodes.{length_encode}
 use Rattle.types.proofs.Decodes.{well_parts, Faultless, faultless}
 use Rattle.types.proofs.Sound.{find_at}
 use Rattle.types.proofs.Addresses.{word_room, start_room, words_more, starts_more, flat_more}
-use Rattle.node_store.specs.Inner.Stored.{Searched, FoundIn, found_at}
-use Rattle.node_store.specs.Inner.Added.{Room, Pasted, Fresh, Absent, Interns, Under}
+use Rattle.node_store.specs.Inner.Stored.{Searched, FoundIn}
+use Rattle.node_store.specs.Inner.Added.{Fresh, Absent, Interns, Under}
 use Rattle.node_store.specs.Intern.{has_room, intern}
-use Rattle.node_store.specs.declared.stored.Found.{Found}
-use Rattle.node_store.specs.declared.stored.Found.TheVariants as found
-use Rattle.node_store.specs.declared.added.Interned.TheVariants as interned
 
 -- ---- the three outcomes
 module _ (lw ls : ℕ) (x : Node) (a : Arena) where
-  pub intern_stored : (n : ℕ) → find x a ≡ some n → intern lw ls x a ≡ ok (n, a)
+  pub intern_stored : (n : ℕ) → find x a ≡ some n → intern lw ls x a ≡ Ok (n, a)
   unfolding intern
   intern_stored n e = rw (intern, e)
 
-  pub intern_full : find x a ≡ none → has_room lw ls (x ∷ a) ≡ false → intern lw ls x a ≡ refuse 7
+  pub intern_full : find x a ≡ none → has_room lw ls (x ∷ a) ≡ false → intern lw ls x a ≡ Err refusal.NoRoom
   unfolding intern
   intern_full e f = rw (intern, e, f)
 
-  pub intern_new : find x a ≡ none → has_room lw ls (x ∷ a) ≡ true → intern lw ls x a ≡ ok (length a, x ∷ a)
+  pub intern_new : find x a ≡ none → has_room lw ls (x ∷ a) ≡ true → intern lw ls x a ≡ Ok (length a, x ∷ a)
   unfolding intern
   intern_new e f = rw (intern, e, f)
 
@@ -53,8 +55,8 @@ module _ (lw ls : ℕ) (x : Node) (a : Arena) where
 
 -- a finished call, from what it leaves
 pub finished : {n m nodes words : ℕ} {w s : List ℕ} (b : Arena) (lw ls : ℕ) → n ≡ m → nodes ≡ length b → words ≡ length (flat b) → w ≡ words_of lw b → s ≡ starts_of ls b
-    → reply (ok n) (record { nodes = nodes; words = words }) w s ≡ reply (ok m) (counters_of b) (words_of lw b) (starts_of ls b)
-finished b lw ls e p q u v = λ i. reply (ok (e i)) (record { nodes = p i; words = q i }) (u i) (v i)
+    → reply (Ok n) (record { nodes = nodes; words = words }) w s ≡ reply (Ok m) (counters_of b) (words_of lw b) (starts_of ls b)
+finished b lw ls e p q u v = λ i. reply (Ok (e i)) (record { nodes = p i; words = q i }) (u i) (v i)
 
 module _ {w s : List ℕ} {c : Counters} {ws : List ℕ} where
   module _ (F : Fresh w s c ws) where
@@ -73,69 +75,59 @@ module _ {w s : List ℕ} {c : Counters} {ws : List ℕ} where
     pub used_room : c.words ≤ length w
     used_room = word_room F.holds
 
-    pub used_fits : Fits w32 c.words
-    used_fits = omega (arith, used_room, F.holds.few_words)
-
-    pub words_room : length ws ≤ length w - c.words → Room w c.words ws
-    words_room h = record { fits = omega (arith, used_room) }
-
-  module _ {r : Found} (I : FoundIn w s c ws r) where
+  module _ {r : std.Option ℕ} (I : FoundIn w s c ws r) where
     -- what was found, in any arena that memory holds
-    seen : (table : ℕ) (a : Arena) (x : Node) → Holds table w s c a → IsNode table (length a) ws x → found_at r ≡ find x a
+    seen : (table : ℕ) (a : Arena) (x : Node) → Holds table w s c a → IsNode table (length a) ws x → option_of r ≡ find x a
     seen t a x H N = I.is t a x H (well_parts t (length a) x N.good).formed_so N.words
 
-    pub number_fits : {n : ℕ} → Fresh w s c ws → r ≡ found.At n → Fits w32 n
+    pub number_fits : {n : ℕ} → Fresh w s c ws → r ≡ Some n → Fits w32 n
     number_fits {n} F e =
-        let q = (find_at F.node F.view n (sym (seen F.table F.view F.node F.holds F.is) ∙ ap found_at e)).0 in
+        let q = (find_at F.node F.view n (sym (seen F.table F.view F.node F.holds F.is) ∙ ap option_of e)).0 in
         omega (arith, F.holds.nodes, start_room F.holds, F.holds.few_starts)
 
-    pub answer_stored : {n : ℕ} → r ≡ found.At n → Interns w s c ws w s (interned.Node n c)
+    pub answer_stored : {n : ℕ} → r ≡ Some n → Interns w s c ws w s (Ok (n, c))
     unfolding reply_of
     answer_stored {n} e = record {
       is = λ t a x H N.
           finished a (length w) (length s) refl H.nodes H.total H.words H.starts
-          ∙ sym (ap (reply_of w s c) (intern_stored (length w) (length s) x a n (sym (seen t a x H N) ∙ ap found_at e)));
+          ∙ sym (ap (reply_of w s c) (intern_stored (length w) (length s) x a n (sym (seen t a x H N) ∙ ap option_of e)));
     }
 
-    pub nothing_there : r ≡ found.Nothing → Absent w s c ws
+    pub nothing_there : r ≡ None → Absent w s c ws
     nothing_there e = record { is = subst (FoundIn w s c ws) e I }
 
   module _ (A : Absent w s c ws) where
     not_there : (t : ℕ) (a : Arena) (x : Node) → Holds t w s c a → IsNode t (length a) ws x → find x a ≡ none
     not_there t a x H N = sym (seen A.is t a x H N)
 
-    answer_full : ((t : ℕ) (a : Arena) (x : Node) → Holds t w s c a → IsNode t (length a) ws x → has_room (length w) (length s) (x ∷ a) ≡ true → ⊥) → Interns w s c ws w s (interned.Refused 7)
+    answer_full : ((t : ℕ) (a : Arena) (x : Node) → Holds t w s c a → IsNode t (length a) ws x → has_room (length w) (length s) (x ∷ a) ≡ true → ⊥) → Interns w s c ws w s (Err refusal.NoRoom)
     unfolding reply_of
     answer_full f = record {
       is = λ t a x H N. sym (ap (reply_of w s c) (intern_full (length w) (length s) x a (not_there t a x H N) (not_true (has_room (length w) (length s) (x ∷ a)) (f t a x H N))));
     }
 
-    pub no_starts : length s - c.nodes < 1 → Interns w s c ws w s (interned.Refused 7)
+    pub no_starts : length s - c.nodes < 1 → Interns w s c ws w s (Err refusal.NoRoom)
     no_starts h = answer_full (λ t a x H N b. omega (arith, (room_parts (length w) (length s) x a b).1, H.nodes))
 
-    pub no_words : length w - c.words < length ws → Interns w s c ws w s (interned.Refused 7)
+    pub no_words : length w - c.words < length ws → Interns w s c ws w s (Err refusal.NoRoom)
     no_words h = answer_full (λ t a x H N b. omega (arith, (room_parts (length w) (length s) x a b).0, flat_more H x, ap length N.words, word_room H))
 
-    pub answer_new : 1 ≤ length s - c.nodes → length ws ≤ length w - c.words → {w' : List ℕ} → Pasted w c.words ws w'
-        → Interns w s c ws w' (set s c.nodes c.words) (interned.Node c.nodes (record { nodes = c.nodes + 1; words = c.words + length ws }))
+    pub answer_new : 1 ≤ length s - c.nodes → length ws ≤ length w - c.words → {put : List ℕ} → put ≡ ws
+        → Interns w s c ws (put_mid c.words (c.words + length ws - c.words) w put) (set s c.nodes c.words) (Ok (c.nodes, record { nodes = c.nodes + 1; words = c.words + length ws }))
     unfolding reply_of
     answer_new h l P = record {
       is = λ t a x H N.
           let k = ap length N.words in
           let m = flat_more H x in
           finished (x ∷ a) (length w) (length s) H.nodes (omega (arith, H.nodes)) (omega arith)
-          (P.is ∙ ap (λ (v : List ℕ). paste w c.words v (length v)) N.words ∙ words_more H x) (starts_more H x (omega arith))
+          (put_mid-paste c.words (c.words + length ws - c.words) w _ (encode x) (length ws) (P ∙ N.words) (omega arith) k ∙ ap (paste w c.words (encode x)) k ∙ words_more H x) (starts_more H x (omega arith))
           ∙ sym (ap (reply_of w s c) (intern_new (length w) (length s) x a (not_there t a x H N) (parts_room (length w) (length s) x a (omega (arith, word_room H)) (omega (arith, H.nodes)))));
     }
 
--- ---- words without a fault, by the number that `fault` gives, are a node that may be added
-module _ {table : ℕ} {w s : List ℕ} {c : Counters} (ws : List ℕ) {m : ℕ} (z : m ≡ number (decode table c.nodes ws)) where
-  pub number_is : (a : Arena) → Holds table w s c a → m ≡ number (decode table (length a) ws)
-  number_is a H = z ∙ ap (λ (i : ℕ). number (decode table i ws)) H.nodes
+-- ---- words that are checked are a node's that may be added
+module _ {table : ℕ} {w s : List ℕ} {c : Counters} {ws : List ℕ} (q : Ok tt ≡ checked (decode table c.nodes ws)) where
+  pub node_in : (a : Arena) → Holds table w s c a → Faultless table (length a) ws
+  node_in a H = faultless table (length a) ws (sym (q ∙ ap (λ (i : ℕ). checked (decode table i ws)) H.nodes))
 
-  module _ (f : m ≡ 0) where
-    pub node_in : (a : Arena) → Holds table w s c a → Faultless table (length a) ws
-    node_in a H = faultless table (length a) ws (sym (number_is a H) ∙ f)
-
-    pub words_fresh : Under table w s c → Fresh w s c ws
-    words_fresh U = let D = node_in U.view U.holds in record { table = table; view = U.view; holds = U.holds; node = D.node; is = D.is }
+  pub words_fresh : Under table w s c → Fresh w s c ws
+  words_fresh U = let D = node_in U.view U.holds in record { table = table; view = U.view; holds = U.holds; node = D.node; is = D.is }

@@ -6,7 +6,8 @@ use mathlib.Core.List.{List, ◌∷◌}
 use mathlib.Core.Option.{Option, none, some}
 use native.Mathlib.Omega.{arith}
 use lib.ListN.{length}
-use Rattle.types.specs.Out.{Out, ok}
+use Rattle.std.specs.Prelude.{Ok}
+use Rattle.types.specs.Out.{Out}
 use Rattle.types.specs.Node.{Node, well}
 use Rattle.types.specs.Arena.{Arena, at, find, absent, sound, Ext, here, more}
 use Rattle.types.specs.Memory.{flat, heads, words_of, starts_of, counters_of, Holds}
@@ -25,14 +26,14 @@ pub data Done (lw ls : ℕ) (x : Node) (a : Arena) : ℕ → Arena → Type 0 wh
   added : find x a ≡ none → has_room lw ls (x ∷ a) ≡ true → Done lw ls x a (length a) (x ∷ a)
 
 -- two equal answers have equal values
-same_value : {A : Type 0} (u v : A) → Path (Out A) (ok u) (ok v) → u ≡ v
+same_value : {A : Type 0} (u v : A) → Path (Out A) (Ok u) (Ok v) → u ≡ v
 same_value u v p = cc
 
 module _ (lw ls : ℕ) (x : Node) (a : Arena) where
-  pub done : (n : ℕ) (b : Arena) → intern lw ls x a ≡ ok (n, b) → Done lw ls x a n b
+  pub done : (n : ℕ) (b : Arena) → intern lw ls x a ≡ Ok (n, b) → Done lw ls x a n b
   done n b e = go (find x a) refl
     where
-      moved : (m : ℕ) (d : Arena) → Done lw ls x a m d → ◌≡◌ {A = Out (ℕ × Arena)} (ok (m, d)) (ok (n, b)) → Done lw ls x a n b
+      moved : (m : ℕ) (d : Arena) → Done lw ls x a m d → ◌≡◌ {A = Out (ℕ × Arena)} (Ok (m, d)) (Ok (n, b)) → Done lw ls x a n b
       moved m d D p = subst (λ (v : ℕ × Arena). Done lw ls x a v.0 v.1) (same_value (m, d) (n, b) p) D
 
       room : (r : Bool) → has_room lw ls (x ∷ a) ≡ r → find x a ≡ none → Done lw ls x a n b
@@ -59,7 +60,7 @@ module _ {lw ls : ℕ} {x : Node} {a : Arena} where
   done_sound table h w (added p q) = sound_more table x a w (ap absent p) h
 
   -- the node is found from then on, so that interning it again changes nothing
-  pub done_again : {n : ℕ} {b : Arena} (table : ℕ) → sound table a ≡ true → well table (length a) x ≡ true → Done lw ls x a n b → intern lw ls x b ≡ ok (n, b)
+  pub done_again : {n : ℕ} {b : Arena} (table : ℕ) → sound table a ≡ true → well table (length a) x ≡ true → Done lw ls x a n b → intern lw ls x b ≡ Ok (n, b)
   done_again {n} {b} table h w D =
       let q = done_at D in
       intern_stored lw ls x b n (ap (λ (y : Node). find y b) (sym q.1) ∙ at_find table b (done_sound table h w D) n q.0)

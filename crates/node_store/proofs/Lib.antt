@@ -1,4 +1,3 @@
-pub mod Loops
 pub mod Stretches
 pub mod Searches
 pub mod Additions

@@ -12,7 +12,7 @@ use Rattle.types.specs.Kind.{Kind, disc, kind_of, body_of}
 use Rattle.types.specs.Node.{children_of}
 use Rattle.types.specs.Fault.{kind_children, children_in}
 use Rattle.node_store.specs.Inner.Children.{ChildWords}
-use Rattle.node_order.proofs.Splits.{body_lent}
+use Rattle.types.proofs.Lists.{body_lent}
 use Rattle.node_faults.proofs.KindCases.{no_kind, is_kind}
 
 low : (k : Kind) (b : List ℕ) → disc k < 4 → children_of (body_of k) b ≡ []

@@ -6,6 +6,7 @@ use mathlib.Core.List.{List, [], ◌∷◌}
 use mathlib.Core.Option.{Option, none, some}
 use native.Mathlib.Omega.{arith}
 use lib.ListN.{length, get_or}
+use Rattle.std.specs.Prelude.{Some, None}
 use Rattle.words.specs.Words.{child}
 use Rattle.types.specs.Node.{Node, encode, formed, children}
 use Rattle.types.specs.Arena.{Arena, at, find, Ext, here}
@@ -16,9 +17,8 @@ use Rattle.types.proofs.Growth.{ext_tail, ext_at, at_new}
 use Rattle.types.proofs.Faults.{children_encode}
 use Rattle.types.proofs.Sound.{find_at, child_lower}
 use Rattle.node_store.specs.Inner.Children.{ChildWords}
-use Rattle.node_store.specs.Inner.Stored.{Sought, IsThere, Later, kept, taken, AfterChildren, Searched, FoundIn}
+use Rattle.node_store.specs.Inner.Stored.{IsThere, Later, kept, taken, AfterChildren, Searched, FoundIn}
 use Rattle.node_store.proofs.Offspring.{as_many, child_is}
-use Rattle.node_store.specs.declared.stored.Found.TheVariants as found
 
 -- ---- a number after the children
 module _ {ws : List ℕ} where
@@ -63,7 +63,7 @@ module _ {w s : List ℕ} {c : Counters} {ws : List ℕ} where
 
   module _ {i : ℕ} (S : Seeks w s c ws i) where
     -- the nodes not looked at have too low numbers for the words
-    pub seek_done : {low : ℕ} → AfterChildren ws low → i ≤ low → FoundIn w s c ws found.Nothing
+    pub seek_done : {low : ℕ} → AfterChildren ws low → i ≤ low → FoundIn w s c ws None
     seek_done F h = record { is = λ t a x H p e. go t a x H p e (find x (S.rest t a x H p e).older) refl }
       where
         go : (t : ℕ) (a : Arena) (x : Node) (H : Holds t w s c a) (p : formed x ≡ true) (e : ws ≡ encode x) (o : Option ℕ) → find x (S.rest t a x H p e).older ≡ o → none ≡ find x a
@@ -79,9 +79,6 @@ module _ {w s : List ℕ} {c : Counters} {ws : List ℕ} where
             absurd (omega (arith, k, ap (λ (cs : List ℕ). get_or cs U.index 0) same, U.is, q.0, R.count, h))
 
     module _ {low : ℕ} (h : low < i) where
-      pub seek_in : Sought w s c (i - 1) ws
-      seek_in = record { lent = S.sought.lent; inside = omega (arith, h, S.high); headed = S.sought.headed }
-
       module _ {b : Bool} (N : IsThere w s c (i - 1) ws b) where
         pub seek_more : b ≡ false → Seeks w s c ws (i - 1)
         unfolding find
@@ -93,6 +90,6 @@ module _ {w s : List ℕ} {c : Counters} {ws : List ℕ} where
               record { older = L.older; count = L.count; ext = L.ext; same = L.same ∙ rw (find, sym (N.is t a x H p q) ∙ f) };
         }
 
-        pub seek_hit : b ≡ true → FoundIn w s c ws (found.At (i - 1))
+        pub seek_hit : b ≡ true → FoundIn w s c ws (Some (i - 1))
         unfolding find
         seek_hit f = record { is = λ t a x H p q. let L = last (S.rest t a x H p q) (omega (arith, h)) in sym (L.same ∙ rw (find, sym (N.is t a x H p q) ∙ f) (ap some L.count)) }

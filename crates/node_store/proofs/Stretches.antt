@@ -19,7 +19,7 @@ use Rattle.types.proofs.Nodes.{length_encode, encode_injective}
 use Rattle.types.proofs.Sound.{at_formed}
 use Rattle.types.proofs.Memories.{span_encode}
 use Rattle.types.proofs.Addresses.{start_room, after_node, from_start, node_room}
-use Rattle.types.specs.declared.Ordering.{Ordering}
+use Rattle.std.specs.declared.cmp.Ordering.{Ordering}
 use Rattle.node_order.specs.WordsOrder.{words_order}
 use Rattle.node_order.proofs.Agreement.{words_order_encode}
 use Rattle.node_store.specs.Inner.Stored.{Lent, InRange, NodeAt, IsThere, Ordered}

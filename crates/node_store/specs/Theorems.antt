@@ -1,6 +1,5 @@
 -- What is shown of these definitions beyond the contracts. A statement with parameters holds for all of them.
-use Rattle.std.specs.Prelude.{ℕ, ◌<◌, ◌≡◌, true, List, ◌++◌, length}
-use Rattle.types.specs.Out.{ok}
+use Rattle.std.specs.Prelude.{ℕ, ◌<◌, ◌≡◌, true, List, ◌++◌, length, Ok}
 use Rattle.types.specs.Node.{Node, well}
 use Rattle.types.specs.Arena.{Arena, at, Ext}
 use Rattle.types.specs.Memory.{flat, heads, words_of, starts_of, counters_of, Holds}
@@ -20,11 +19,11 @@ pub record InternedIn (x : Node) (a : Arena) (n : ℕ) (b : Arena) : Type 0 wher
 
 -- every finished interning has
 abbrev pub InternDone : Type 0
-InternDone = (words starts : ℕ) (x : Node) (a : Arena) (n : ℕ) (b : Arena) → intern words starts x a ≡ ok (n, b) → InternedIn x a n b
+InternDone = (words starts : ℕ) (x : Node) (a : Arena) (n : ℕ) (b : Arena) → intern words starts x a ≡ Ok (n, b) → InternedIn x a n b
 
 -- memory that held a then holds b
 abbrev pub InternHolds : Type 0
 InternHolds =
     (table : ℕ) (w s : List ℕ) (c : Counters) (x : Node) (a : Arena) (n : ℕ) (b : Arena) → Holds table w s c a
-    → well table (length a) x ≡ true → intern (length w) (length s) x a ≡ ok (n, b)
+    → well table (length a) x ≡ true → intern (length w) (length s) x a ≡ Ok (n, b)
     → Holds table (words_of (length w) b) (starts_of (length s) b) (counters_of b) b

@@ -1,6 +1,4 @@
 // The nodes that lent memory holds.
-ghost use Rattle.std.specs.Prelude.{◌≡◌};
-ghost use Rattle.types.specs.Same.{same_numbers};
 ghost use Rattle.node_store.specs.Inner.Stored.{InRange, NodeAt, Sought, IsThere, Later, AfterChildren, Searched, FoundIn, Ordered};
 
 use crate::children::child_words;
@@ -19,23 +17,6 @@ pub fn node_at<'a>(words: &'a [u32], starts: &[u32], c: Counters, n: usize) -> &
     &words[at..end]
 }
 
-// Whether two stretches have the same words.
-fn same(a: &[u32], b: &[u32]) -> bool
-    ensures { result ≡ same_numbers a.now b.now }
-{
-    if a.len() != b.len() {
-        return false;
-    }
-    let mut i = 0;
-    while i < a.len() {
-        if a[i] != b[i] {
-            return false;
-        }
-        i += 1;
-    }
-    true
-}
-
 // Whether node n has the words of `node`. Most nodes differ in their heads, so those are compared first.
 pub fn is_there(words: &[u32], starts: &[u32], c: Counters, n: usize, node: &[u32]) -> bool
     requires { Sought words.now starts.now c n node.now }
@@ -45,13 +26,7 @@ pub fn is_there(words: &[u32], starts: &[u32], c: Counters, n: usize, node: &[u3
     if words[at] != node[0] {
         return false;
     }
-    same(node_at(words, starts, c, n), node)
-}
-
-#[derive(Clone, Copy)]
-pub enum Found {
-    At(usize),
-    Nothing,
+    node_at(words, starts, c, n) == node
 }
 
 // The higher of two numbers: one so far, and the one after m.
@@ -69,30 +44,24 @@ fn later(low: usize, m: u32) -> usize
 fn after_children(node: &[u32]) -> usize
     ensures { AfterChildren node.now result }
 {
-    let body = child_words(node);
     let mut low = 0;
-    let mut i = 0;
-    while i < body.len() {
-        low = later(low, child(body[i]));
-        i += 1;
+    for word in child_words(node) {
+        low = later(low, child(*word));
     }
     low
 }
 
 // The number of the node whose words are those of `node`.
-pub fn find(words: &[u32], starts: &[u32], c: Counters, node: &[u32]) -> Found
+pub fn find(words: &[u32], starts: &[u32], c: Counters, node: &[u32]) -> Option<usize>
     requires { Searched words.now starts.now c node.now }
     ensures { FoundIn words.now starts.now c node.now result }
 {
-    let low = after_children(node);
-    let mut i = c.nodes;
-    while i > low {
-        i -= 1;
+    for i in (after_children(node)..c.nodes).rev() {
         if is_there(words, starts, c, i, node) {
-            return Found::At(i);
+            return Some(i);
         }
     }
-    Found::Nothing
+    None
 }
 
 // How node m and node n stand in order.

@@ -7,8 +7,11 @@ use native.Mathlib.Omega.{arith}
 use lib.ListN.{length, get_or, take}
 use lib.Dec.{eqb}
 use borrow.Author.Tests.{not-true, not-false}
+use Rattle.std.specs.Prelude as std
 use Rattle.words.specs.Words.{child}
-use Rattle.types.specs.Out.{Out, ok, ◌>>=◌}
+use Rattle.std.specs.Prelude.{Ok, Err, Some, None}
+use Rattle.types.specs.declared.refusal.Refusal.{Refusal}
+use Rattle.types.specs.Out.{Out, ◌>>=◌}
 use Rattle.types.specs.Node.{Polarity, members, bound, Node, node, tag, children, encode, below}
 use Rattle.types.specs.Arena.{Arena, at, Ext, here}
 use Rattle.types.specs.Fault.{children_in}
@@ -22,8 +25,6 @@ use Rattle.types.proofs.Faults.{children_encode}
 use Rattle.types.proofs.Memories.{unique}
 use Rattle.node_store.specs.Inner.Stored.{NodeAt}
 use Rattle.node_store.specs.Intern.{left}
-use Rattle.node_store.specs.declared.added.Interned.{Interned}
-use Rattle.node_store.specs.declared.added.Interned.TheVariants as interned
 use Rattle.node_store.proofs.Interning.{done, done_ext}
 use Rattle.node_store.specs.Inner.Children.{ChildWords}
 use Rattle.node_store.proofs.Offspring.{as_many, child_is}
@@ -41,10 +42,6 @@ use Rattle.member_lists.specs.Inner.Closed as closing
 use Rattle.pass.specs.Inner.Caches.{Caches}
 use Rattle.pass.specs.Inner.Applied.{Leads, Ready, Applies, AppliesFirst, ListAt, FirstMember, AppliesEach}
 use Rattle.rebuilding.specs.declared.children.Children.{Children}
-use Rattle.member_lists.specs.declared.Closed.{Closed}
-use Rattle.member_lists.specs.declared.Closed.TheVariants as closed
-use Rattle.recursion.specs.declared.Run.{Run}
-use Rattle.recursion.specs.declared.Run.TheVariants as run
 use Rattle.pass.proofs.Leading.{leads_ext, caches_moved, stop_leads, EachDone, each_done, each_stop, reply_leads}
 use Rattle.pass.proofs.Turns.{agrees_kept}
 use Rattle.pass.proofs.Others.{ListReady, ready_inside, list_ready, other_refused, rebuilding, other_done}
@@ -85,18 +82,18 @@ module _ {w s : List ℕ} {c : Counters} {n : ℕ} {removable dropped kept : Lis
   pub first_ready : Ready w s c x removable dropped kept
   first_ready = record { table = P.table; view = P.view; variables = P.variables; holds = P.holds; inside = omega (arith, x_low, P.inside); agrees = agrees_first P.holds P.agrees; caches = P.caches }
 
-  pub first_done : {w' s' dropped' kept' : List ℕ} {i : Interned} → Applies w s c x removable true dropped kept w' s' dropped' kept' i → AppliesFirst w s c n removable dropped kept w' s' dropped' kept' i
+  pub first_done : {w' s' dropped' kept' : List ℕ} {i : Out (ℕ × Counters)} → Applies w s c x removable true dropped kept w' s' dropped' kept' i → AppliesFirst w s c n removable dropped kept w' s' dropped' kept' i
   first_done {w'} {s'} {dropped'} {kept'} {i} Y = record {
     is = λ table a R H A C.
         subst (λ (y : ℕ). Leads table a R w' s' dropped' kept' i (apply (length w) (length s) a y no_variable a)) (F.is table a H) (Y.is table a R H (agrees_first H A) C);
   }
 
 -- ---- what becomes of the list grew from what it was gathered in
-gather_ext : (lw ls : ℕ) (k : Polarity) (first : Job) (ms : List ℕ) (b : Arena) (m : ℕ) (d : Arena) → (first b ≡ ok (m, d) → Ext b d) → gather lw ls k first ms b ≡ ok (m, d) → Ext b d
+gather_ext : (lw ls : ℕ) (k : Polarity) (first : Job) (ms : List ℕ) (b : Arena) (m : ℕ) (d : Arena) → (first b ≡ Ok (m, d) → Ext b d) → gather lw ls k first ms b ≡ Ok (m, d) → Ext b d
 unfolding close
 gather_ext lw ls k first ms b m d h e = go (is_decided k b ms) refl
   where
-    closes : (l : List ℕ) → close lw ls k first l b ≡ ok (m, d) → Ext b d
+    closes : (l : List ℕ) → close lw ls k first l b ≡ Ok (m, d) → Ext b d
     closes [] p = h p
     closes (x ∷ []) p = subst (Ext b) (ap (λ (z : ℕ × Arena). z.1) (ok_same p)) here
     closes (x ∷ y ∷ l) p = done_ext (done lw ls (node (members k) (x ∷ y ∷ l)) b m d p)
@@ -108,8 +105,8 @@ gather_ext lw ls k first ms b m d h e = go (is_decided k b ms) refl
         closes p.0 p.2
 
 -- ---- what the closing of a list says
-closes_done : {w s w' s' : List ℕ} {c : Counters} {z : Closed} {o f : Out (ℕ × Arena)} {i : Interned} → ClosesTo w s c w' s' z o f → z ≡ closed.Done i → left c i w' s' ≡ reply_of w s c o
-closes_done {w' = w'} {s'} {c = c} {i = i} (closing.done {r = r} e) q = let p : r ≡ i = cc in ap (λ (x : Interned). left c x w' s') (sym p) ∙ e
+closes_done : {w s w' s' : List ℕ} {c : Counters} {z : std.Option (Out (ℕ × Counters))} {o f : Out (ℕ × Arena)} {i : Out (ℕ × Counters)} → ClosesTo w s c w' s' z o f → z ≡ Some i → left c i w' s' ≡ reply_of w s c o
+closes_done {w' = w'} {s'} {c = c} {i = i} (closing.done {r = r} e) q = let p : r ≡ i = cc in ap (λ (x : Out (ℕ × Counters)). left c x w' s') (sym p) ∙ e
 closes_done (closing.emptied e p q) z = let y : ◌≡◌ {A = ℕ} 0 1 = cc in absurd (omega arith)
 
 record Emptied (w s w' s' : List ℕ) (o f : Out (ℕ × Arena)) : Type 0 where
@@ -117,7 +114,7 @@ record Emptied (w s w' s' : List ℕ) (o f : Out (ℕ × Arena)) : Type 0 where
   pub words : w' ≡ w
   pub starts : s' ≡ s
 
-closes_empty : {w s w' s' : List ℕ} {c : Counters} {z : Closed} {o f : Out (ℕ × Arena)} → ClosesTo w s c w' s' z o f → z ≡ closed.Empty → Emptied w s w' s' o f
+closes_empty : {w s w' s' : List ℕ} {c : Counters} {z : std.Option (Out (ℕ × Counters))} {o f : Out (ℕ × Arena)} → ClosesTo w s c w' s' z o f → z ≡ None → Emptied w s w' s' o f
 closes_empty (closing.done e) q = let y : ◌≡◌ {A = ℕ} 0 1 = cc in absurd (omega arith)
 closes_empty (closing.emptied e p q) z = record { is = e; words = p; starts = q }
 
@@ -126,7 +123,7 @@ module _ {w s : List ℕ} {c : Counters} {n kind_number : ℕ} {removable droppe
   tag_in table a H = ap (λ (b : Arena). tag (at b n)) (unique H P.ready.holds) ∙ P.tag_is
 
   module _ {keep : Bool} {r : Children} (L : Remains w s c n removable keep r) where
-    module _ {w' s' items' dropped' kept' : List ℕ} {g : Run} (E : AppliesEach w s c n r.items r.count removable keep dropped kept w' s' items' dropped' kept' g) where
+    module _ {w' s' items' dropped' kept' : List ℕ} {g : Out Counters} (E : AppliesEach w s c n r.items r.count removable keep dropped kept w' s' items' dropped' kept' g) where
       module _ {table : ℕ} {a : Arena} {R : ℕ → Bool} (H : Holds table w s c a) (A : Agrees removable R a n) (C : Caches (length w) (length s) R a dropped kept) where
         f : ℕ → Job
         f x = apply (length w) (length s) a x (setting keep R)
@@ -142,11 +139,11 @@ module _ {w s : List ℕ} {c : Counters} {n kind_number : ℕ} {removable droppe
             ∙ step_list (length w) (length s) a (at a n) (apply (length w) (length s) a) (setting keep R) a P.side (ap list_kind (tag_in table a H))
             ∙ ap (λ (cs : List ℕ). each (λ (x : ℕ). apply (length w) (length s) a x (setting keep R)) cs a >>= λ (q : List ℕ × Arena). gather (length w) (length s) P.side first q.0 q.1) (sym (L.is table a R H A).is)
 
-        ended : {d : Counters} → g ≡ run.Went d → EachDone table a R w' s' dropped' kept' items' r.count d (each f (take r.count r.items) a)
+        ended : {d : Counters} → g ≡ Ok d → EachDone table a R w' s' dropped' kept' items' r.count d (each f (take r.count r.items) a)
         unfolding f
         ended q = each_done (E.is table a R H A C) q
 
-      list_refused : {u : ℕ} → g ≡ run.Refused u → Applies w s c n removable keep dropped kept w' s' dropped' kept' (interned.Refused u)
+      list_refused : {u : Refusal} → g ≡ Err u → Applies w s c n removable keep dropped kept w' s' dropped' kept' (Err u)
       unfolding ◌>>=◌ f
       list_refused p = record {
         is = λ table a R H A C.
@@ -155,7 +152,7 @@ module _ {w s : List ℕ} {c : Counters} {n kind_number : ℕ} {removable droppe
             stop_leads (record { is = o; stands = S.stands });
       }
 
-      module _ {d : Counters} (q : g ≡ run.Went d) where
+      module _ {d : Counters} (q : g ≡ Ok d) where
         -- the list itself is still there
         near_inside : n < d.nodes
         near_inside =
@@ -169,7 +166,7 @@ module _ {w s : List ℕ} {c : Counters} {n kind_number : ℕ} {removable droppe
             let D = ended R.holds R.agrees R.caches q in
             record { lent = record { table = R.table; view = D.arena; holds = D.holds }; side = P.side; kind_is = P.kind_is; long = D.long; low = ap (λ (z : ℕ). below z (take r.count items')) D.holds.nodes ∙ D.low }
 
-        module _ {w'' s'' : List ℕ} {z : Closed} (Z : Closes w' s' d kind_number items' r.count w'' s'' z) where
+        module _ {w'' s'' : List ℕ} {z : std.Option (Out (ℕ × Counters))} (Z : Closes w' s' d kind_number items' r.count w'' s'' z) where
           module _ {table : ℕ} {a : Arena} {R : ℕ → Bool} (H : Holds table w s c a) (A : Agrees removable R a n) (C : Caches (length w) (length s) R a dropped kept) where
             b : Arena
             b = (ended H A C q).arena
@@ -200,7 +197,7 @@ module _ {w s : List ℕ} {c : Counters} {n kind_number : ℕ} {removable droppe
             first_low : get_or (children (at a n)) 0 0 < n
             first_low = child_lower table a H.good n low 0 (has_member table a H.good n low P.side (tag_in table a H))
 
-          list_done : {i : Interned} → z ≡ closed.Done i → length w' ≡ length w → length s' ≡ length s → length w'' ≡ length w' → length s'' ≡ length s' → Applies w s c n removable keep dropped kept w'' s'' dropped' kept' i
+          list_done : {i : Out (ℕ × Counters)} → z ≡ Some i → length w' ≡ length w → length s' ≡ length s → length w'' ≡ length w' → length s'' ≡ length s' → Applies w s c n removable keep dropped kept w'' s'' dropped' kept' i
           unfolding become b first
           list_done {i} e lw ls lw' ls' = record {
             is = λ table a R H A C.
@@ -218,7 +215,7 @@ module _ {w s : List ℕ} {c : Counters} {n kind_number : ℕ} {removable droppe
                 (closes_done (closes_to H A C) e));
           }
 
-          module _ (e : z ≡ closed.Empty) where
+          module _ (e : z ≡ None) where
             -- memory is as the members left it
             module _ {table : ℕ} {a : Arena} {R : ℕ → Bool} (H : Holds table w s c a) (A : Agrees removable R a n) (C : Caches (length w) (length s) R a dropped kept) where
               left_so : Emptied w' s' w'' s'' (become H A C) (first H A C (b H A C))
@@ -255,7 +252,7 @@ module _ {w s : List ℕ} {c : Counters} {n kind_number : ℕ} {removable droppe
                   tag_is = ap tag (same_node R.holds R.agrees R.caches) ∙ P.tag_is;
                 }
 
-            list_emptied : {w''' s''' dropped'' kept'' : List ℕ} {i : Interned} → AppliesFirst w'' s'' d n removable dropped' kept' w''' s''' dropped'' kept'' i → length w' ≡ length w → length s' ≡ length s → Applies w s c n removable keep dropped kept w''' s''' dropped'' kept'' i
+            list_emptied : {w''' s''' dropped'' kept'' : List ℕ} {i : Out (ℕ × Counters)} → AppliesFirst w'' s'' d n removable dropped' kept' w''' s''' dropped'' kept'' i → length w' ≡ length w → length s' ≡ length s → Applies w s c n removable keep dropped kept w''' s''' dropped'' kept'' i
             unfolding b first
             list_emptied {w'''} {s'''} {dropped''} {kept''} {i} Y lw ls = record {
               is = λ table a R H A C.
@@ -276,15 +273,15 @@ module _ {w s : List ℕ} {c : Counters} {n : ℕ} {removable dropped kept : Lis
   with_kind : {b : Bool} → (eqb k 7 || eqb k 8) ≡ b → Remains w s c n removable (not b || keep) r
   with_kind p = subst (λ (b : Bool). Remains w s c n removable (not b || keep) r) p L
 
-  module _ {w' s' items' dropped' kept' : List ℕ} {g : Run} (E : AppliesEach w s c n r.items r.count removable keep dropped kept w' s' items' dropped' kept' g) where
-    pub node_refused : {u : ℕ} → g ≡ run.Refused u → Applies w s c n removable keep dropped kept w' s' dropped' kept' (interned.Refused u)
+  module _ {w' s' items' dropped' kept' : List ℕ} {g : Out Counters} (E : AppliesEach w s c n r.items r.count removable keep dropped kept w' s' items' dropped' kept' g) where
+    pub node_refused : {u : Refusal} → g ≡ Err u → Applies w s c n removable keep dropped kept w' s' dropped' kept' (Err u)
     node_refused {u} p = go (eqb k 7 || eqb k 8) refl
       where
-        go : (b : Bool) → (eqb k 7 || eqb k 8) ≡ b → Applies w s c n removable keep dropped kept w' s' dropped' kept' (interned.Refused u)
+        go : (b : Bool) → (eqb k 7 || eqb k 8) ≡ b → Applies w s c n removable keep dropped kept w' s' dropped' kept' (Err u)
         go true q = list_refused (list_ready P e K q) (with_kind q) E p
         go false q = other_refused P (with_kind q) E e K q p
 
-    module _ {d : Counters} (q : g ≡ run.Went d) where
+    module _ {d : Counters} (q : g ≡ Ok d) where
       module _ (t : not (eqb k 7 || eqb k 8) ≡ true) where
         no : (eqb k 7 || eqb k 8) ≡ false
         no = not-true (eqb k 7 || eqb k 8) t
@@ -292,7 +289,7 @@ module _ {w s : List ℕ} {c : Counters} {n : ℕ} {removable dropped kept : Lis
         pub node_rebuilding : Rebuilding w' s' d n items' r.count
         node_rebuilding = rebuilding P (with_kind no) E q
 
-        pub node_rebuilt : {w'' s'' : List ℕ} {i : Interned} → Rebuilds w' s' d n items' r.count w'' s'' i → length w' ≡ length w → length s' ≡ length s → length w'' ≡ length w' → length s'' ≡ length s'
+        pub node_rebuilt : {w'' s'' : List ℕ} {i : Out (ℕ × Counters)} → Rebuilds w' s' d n items' r.count w'' s'' i → length w' ≡ length w → length s' ≡ length s → length w'' ≡ length w' → length s'' ≡ length s'
             → Applies w s c n removable keep dropped kept w'' s'' dropped' kept' i
         node_rebuilt B lw ls lw' ls' = other_done P (with_kind no) E q B e K no lw ls lw' ls'
 
@@ -309,17 +306,17 @@ module _ {w s : List ℕ} {c : Counters} {n : ℕ} {removable dropped kept : Lis
         pub node_near : n < d.nodes
         node_near = near_inside the_list (with_kind yes) E q
 
-        module _ {w'' s'' : List ℕ} {z : Closed} (Z : Closes w' s' d k items' r.count w'' s'' z) where
-          pub node_closed : {i : Interned} → z ≡ closed.Done i → length w' ≡ length w → length s' ≡ length s → length w'' ≡ length w' → length s'' ≡ length s' → Applies w s c n removable keep dropped kept w'' s'' dropped' kept' i
+        module _ {w'' s'' : List ℕ} {z : std.Option (Out (ℕ × Counters))} (Z : Closes w' s' d k items' r.count w'' s'' z) where
+          pub node_closed : {i : Out (ℕ × Counters)} → z ≡ Some i → length w' ≡ length w → length s' ≡ length s → length w'' ≡ length w' → length s'' ≡ length s' → Applies w s c n removable keep dropped kept w'' s'' dropped' kept' i
           node_closed = list_done the_list (with_kind yes) E q Z
 
-          module _ (u : z ≡ closed.Empty) where
+          module _ (u : z ≡ None) where
             pub node_ready : Ready w'' s'' d n removable dropped' kept'
             node_ready = still_ready the_list (with_kind yes) E q Z u
 
             pub node_list : ListAt w'' s'' d n
             node_list = still_list the_list (with_kind yes) E q Z u
 
-            pub node_emptied : {w''' s''' dropped'' kept'' : List ℕ} {i : Interned} → AppliesFirst w'' s'' d n removable dropped' kept' w''' s''' dropped'' kept'' i → length w' ≡ length w → length s' ≡ length s
+            pub node_emptied : {w''' s''' dropped'' kept'' : List ℕ} {i : Out (ℕ × Counters)} → AppliesFirst w'' s'' d n removable dropped' kept' w''' s''' dropped'' kept'' i → length w' ≡ length w → length s' ≡ length s
                 → Applies w s c n removable keep dropped kept w''' s''' dropped'' kept'' i
             node_emptied = list_emptied the_list (with_kind yes) E q Z u

@@ -8,19 +8,19 @@ use native.Mathlib.Omega.{arith}
 use lib.ListN.{length, take}
 use lib.Seq.{length-take-le}
 use lib.Dec.{eqb}
+use Rattle.std.specs.Prelude.{Ok, Err}
 use Rattle.types.specs.Out.{Out, ◌>>=◌}
 use Rattle.types.specs.Kind.{disc}
 use Rattle.types.specs.Node.{Polarity, Tag, Node, members, node, tag, kind, children, below}
 use Rattle.types.specs.Arena.{Arena, at, here}
 use Rattle.types.specs.Memory.{Holds}
 use Rattle.types.specs.declared.Counters.{Counters}
+use Rattle.types.specs.declared.refusal.Refusal.{Refusal}
 use Rattle.types.proofs.Growth.{ext_length, ext_at}
 use Rattle.types.proofs.Sound.{children_below}
 use Rattle.types.proofs.Lists.{below_at}
 use Rattle.node_store.specs.Inner.Stored.{InRange}
 use Rattle.node_store.specs.Intern.{intern}
-use Rattle.node_store.specs.declared.added.Interned.{Interned}
-use Rattle.node_store.specs.declared.added.Interned.TheVariants as interned
 use Rattle.node_store.proofs.Interning.{done, done_ext}
 use Rattle.node_reading.specs.Inner.{KindAt}
 use Rattle.recursion.specs.Jobs.{Job, each, rebuild}
@@ -36,8 +36,6 @@ use Rattle.rebuilding.specs.Inner.Rebuilt.{Rebuilding, Rebuilds}
 use Rattle.pass.specs.Inner.Caches.{Caches}
 use Rattle.pass.specs.Inner.Applied.{Leads, Ready, Applies, EachReady, AppliesEach}
 use Rattle.rebuilding.specs.declared.children.Children.{Children}
-use Rattle.recursion.specs.declared.Run.{Run}
-use Rattle.recursion.specs.declared.Run.TheVariants as run
 use Rattle.pass.proofs.Leading.{stop_leads, EachDone, each_done, each_stop, reply_leads}
 
 -- node n is a member list of the kind with this number
@@ -93,7 +91,7 @@ module _ {w s : List ℕ} {c : Counters} {n : ℕ} {removable dropped kept : Lis
       }
 
   module _ {r : Children} (L : Remains w s c n removable true r) where
-    module _ {keep : Bool} {w' s' items' dropped' kept' : List ℕ} {g : Run} (E : AppliesEach w s c n r.items r.count removable keep dropped kept w' s' items' dropped' kept' g) where
+    module _ {keep : Bool} {w' s' items' dropped' kept' : List ℕ} {g : Out Counters} (E : AppliesEach w s c n r.items r.count removable keep dropped kept w' s' items' dropped' kept' g) where
       -- the run of the children, in one arena
       module _ {table : ℕ} {a : Arena} {R : ℕ → Bool} (H : Holds table w s c a) (A : Agrees removable R a n) (C : Caches (length w) (length s) R a dropped kept) where
         f : ℕ → Job
@@ -109,11 +107,11 @@ module _ {w s : List ℕ} {c : Counters} {n : ℕ} {removable dropped kept : Lis
             ∙ step_other (length w) (length s) a (at a n) (apply (length w) (length s) a) (setting keep R) a e
             ∙ ap (λ (o : Out (List ℕ × Arena)). o >>= λ (q : List ℕ × Arena). intern (length w) (length s) (node (tag (at a n)) q.0) q.1) (sym run_is)
 
-        ended : {d : Counters} → g ≡ run.Went d → EachDone table a R w' s' dropped' kept' items' r.count d (each f (take r.count r.items) a)
+        ended : {d : Counters} → g ≡ Ok d → EachDone table a R w' s' dropped' kept' items' r.count d (each f (take r.count r.items) a)
         unfolding f
         ended q = each_done (E.is table a R H A C) q
 
-      pub other_refused : {x k u : ℕ} → x ≡ n → KindAt w s c x k → (eqb k 7 || eqb k 8) ≡ false → g ≡ run.Refused u → Applies w s c n removable keep dropped kept w' s' dropped' kept' (interned.Refused u)
+      pub other_refused : {x k : ℕ} {u : Refusal} → x ≡ n → KindAt w s c x k → (eqb k 7 || eqb k 8) ≡ false → g ≡ Err u → Applies w s c n removable keep dropped kept w' s' dropped' kept' (Err u)
       unfolding ◌>>=◌ f
       other_refused {u = u} e K q p = record {
         is = λ table a R H A C.
@@ -122,7 +120,7 @@ module _ {w s : List ℕ} {c : Counters} {n : ℕ} {removable dropped kept : Lis
             stop_leads (record { is = o; stands = S.stands });
       }
 
-      module _ {d : Counters} (q : g ≡ run.Went d) where
+      module _ {d : Counters} (q : g ≡ Ok d) where
         pub rebuilding : Rebuilding w' s' d n items' r.count
         rebuilding =
             let D = ended P.holds P.agrees P.caches q in
@@ -137,7 +135,7 @@ module _ {w s : List ℕ} {c : Counters} {n : ℕ} {removable dropped kept : Lis
               low = ap (λ (z : ℕ). below z (take r.count items')) D.holds.nodes ∙ D.low;
             }
 
-        pub other_done : {w'' s'' : List ℕ} {i : Interned} → Rebuilds w' s' d n items' r.count w'' s'' i → {x k : ℕ} → x ≡ n → KindAt w s c x k → (eqb k 7 || eqb k 8) ≡ false
+        pub other_done : {w'' s'' : List ℕ} {i : Out (ℕ × Counters)} → Rebuilds w' s' d n items' r.count w'' s'' i → {x k : ℕ} → x ≡ n → KindAt w s c x k → (eqb k 7 || eqb k 8) ≡ false
             → length w' ≡ length w → length s' ≡ length s → length w'' ≡ length w' → length s'' ≡ length s' → Applies w s c n removable keep dropped kept w'' s'' dropped' kept' i
         unfolding ◌>>=◌ f
         other_done {w''} {s''} {i} B e K v lw ls lw' ls' = record {

@@ -13,7 +13,6 @@ use Rattle.types.specs.declared.Counters.{Counters}
 use Rattle.types.proofs.Tests.{true_false, same_truth}
 use Rattle.bits.specs.Bits.{has}
 use Rattle.node_store.specs.Inner.Stored.{InRange}
-use Rattle.node_store.specs.declared.added.Interned.{Interned}
 use Rattle.walks.specs.Removable.{Removable, OneSigned}
 use Rattle.walks.specs.Inner.Sets.{OneSignedIn}
 use Rattle.walks.proofs.OneSigns.{one_signed_removable}
@@ -80,10 +79,10 @@ module _ {w s : List ℕ} {c : Counters} {root : ℕ} (P : InRange w s c root) {
     caches = caches_none;
   }
 
-  pub once_done : {w' s' dropped kept : List ℕ} {i : Interned} → Applies w s c root r false (replicate 4096 0) (replicate 4096 0) w' s' dropped kept i → SimplifiesOnce w s c root w' s' i
+  pub once_done : {w' s' dropped kept : List ℕ} {i : Out (ℕ × Counters)} → Applies w s c root r false (replicate 4096 0) (replicate 4096 0) w' s' dropped kept i → SimplifiesOnce w s c root w' s' i
   unfolding pass
   once_done {w'} {s'} {dropped} {kept} {i} A = record { is = λ table a H. led (A.is table a (one_signed a root) H (agrees_once table a H) caches_none) }
     where
-      led : {table : ℕ} {a : Arena} {R : ℕ → Bool} {j : Interned} {o : Out (ℕ × Arena)} → Leads table a R w' s' dropped kept j o → LeadsOnce table a w' s' j o
+      led : {table : ℕ} {a : Arena} {R : ℕ → Bool} {j : Out (ℕ × Counters)} {o : Out (ℕ × Arena)} → Leads table a R w' s' dropped kept j o → LeadsOnce table a w' s' j o
       led (applied.done H E l C) = done H E l
       led (applied.stop S) = stop S

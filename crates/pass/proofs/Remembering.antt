@@ -7,13 +7,12 @@ use native.Mathlib.Omega.{arith}
 use native.Mathlib.Decide.{ℕ_discrete}
 use lib.ListN.{length, get_or, set, length-set}
 use lib.Seq.{get_or-set_same, get_or-set_other}
-use Rattle.types.specs.Out.{ok}
+use Rattle.std.specs.Prelude.{Ok}
+use Rattle.types.specs.Out.{Out}
 use Rattle.types.specs.Arena.{Arena, here}
 use Rattle.types.specs.declared.Counters.{Counters}
 use Rattle.types.proofs.Growth.{ext_length}
 use Rattle.types.proofs.Addresses.{start_room}
-use Rattle.node_store.specs.declared.added.Interned.{Interned}
-use Rattle.node_store.specs.declared.added.Interned.TheVariants as interned
 use Rattle.simplification.specs.Pass.{apply}
 use Rattle.simplification.proofs.Caching.{cache_law}
 use Rattle.rebuilding.specs.Inner.Children.{setting}
@@ -85,27 +84,27 @@ module _ {w s : List ℕ} {c : Counters} {n : ℕ} {removable dropped kept : Lis
   same_falls e = omega (arith, e)
 
   module _ {keep : Bool} where
-    pub cached_done : {h : ℕ} → h ≡ get_or (entries keep dropped kept) n 0 → (h ≡ 0 → ⊥) → Applies w s c n removable keep dropped kept w s dropped kept (interned.Node (h - 1) c)
+    pub cached_done : {h : ℕ} → h ≡ get_or (entries keep dropped kept) n 0 → (h ≡ 0 → ⊥) → Applies w s c n removable keep dropped kept w s dropped kept (Ok (h - 1, c))
     cached_done {h} e f = record {
       is = λ table a T H A C.
           let z : h ≡ suc (h - 1) = omega (arith, f) in
           let X = C.hit keep n (h - 1) (sym e ∙ z) in
-          subst (Leads table a T w s dropped kept (interned.Node (h - 1) c)) (sym X.is) (done H here X.low C);
+          subst (Leads table a T w s dropped kept (Ok (h - 1, c))) (sym X.is) (done H here X.low C);
     }
 
-    module _ {w' s' dropped' kept' : List ℕ} {r : Interned} (P : Applies w s c n removable keep dropped kept w' s' dropped' kept' r) {m : ℕ} {d : Counters} (e : r ≡ interned.Node m d) where
+    module _ {w' s' dropped' kept' : List ℕ} {r : Out (ℕ × Counters)} (P : Applies w s c n removable keep dropped kept w' s' dropped' kept' r) {m : ℕ} {d : Counters} (e : r ≡ Ok (m, d)) where
       pub remember_room : CacheRoom dropped' kept' n m
       remember_room =
           let D = leads_done (P.is R.table R.view R.variables R.holds R.agrees R.caches) e in
           record { long = D.caches.long; low = ready_small; small = omega (arith, D.low, D.holds.nodes, start_room D.holds, D.holds.few_starts) }
 
-      pub remembered : {dropped'' kept'' : List ℕ} → length w' ≡ length w → length s' ≡ length s → Remembers keep n m dropped' kept' dropped'' kept'' → Applies w s c n removable keep dropped kept w' s' dropped'' kept'' (interned.Node m d)
+      pub remembered : {dropped'' kept'' : List ℕ} → length w' ≡ length w → length s' ≡ length s → Remembers keep n m dropped' kept' dropped'' kept'' → Applies w s c n removable keep dropped kept w' s' dropped'' kept'' (Ok (m, d))
       remembered {dropped''} {kept''} lw ls M = record {
         is = λ table a T H A C.
             let D = leads_done (P.is table a T H A C) e in
             let l : n < length a = omega (arith, R.inside, H.nodes) in
             let x = cache_law (length w) (length s) table H.few_starts (setting keep T) a D.arena D.arena n m H.good l D.is here D.holds.good in
-            let y : apply (length w') (length s') D.arena n (setting keep T) D.arena ≡ ok (m, D.arena) = (λ i. apply (lw i) (ls i) D.arena n (setting keep T) D.arena) ∙ x in
+            let y : apply (length w') (length s') D.arena n (setting keep T) D.arena ≡ Ok (m, D.arena) = (λ i. apply (lw i) (ls i) D.arena n (setting keep T) D.arena) ∙ x in
             let X : Hit (length w') (length s') (setting keep T) D.arena n m = record { inside = omega (arith, l, ext_length a D.arena D.ext); is = y; low = D.low } in
-            subst (Leads table a T w' s' dropped'' kept'' (interned.Node m d)) (sym D.is) (done D.holds D.ext D.low (caches_more D.caches X M));
+            subst (Leads table a T w' s' dropped'' kept'' (Ok (m, d))) (sym D.is) (done D.holds D.ext D.low (caches_more D.caches X M));
       }

@@ -6,22 +6,21 @@ use mathlib.Core.List.{List, [], ◌∷◌, ◌++◌, append_assoc, append-nil}
 use native.Mathlib.Omega.{arith}
 use lib.ListN.{length, get_or, take, drop, set, length-set, length-append, drop_of_length-le}
 use lib.Seq.{drop-cons, get_or-take, take-set-lt, length-take-le, get_or_at, set_at}
-use Rattle.types.specs.Out.{Out, ok, refuse, ◌>>=◌}
+use Rattle.std.specs.Prelude.{Ok, Err}
+use Rattle.types.specs.declared.refusal.Refusal.{Refusal}
+use Rattle.types.specs.Out.{Out, ◌>>=◌}
 use Rattle.types.specs.Node.{tag, below}
 use Rattle.types.specs.Arena.{Arena, Ext, here}
 use Rattle.types.specs.Memory.{Holds}
 use Rattle.types.specs.declared.Counters.{Counters}
 use Rattle.types.proofs.Growth.{ext_length, ext_trans, ext_at}
 use Rattle.types.proofs.Lists.{below_at, below_more}
-use Rattle.node_store.specs.declared.added.Interned.{Interned}
-use Rattle.node_store.specs.declared.added.Interned.TheVariants as interned
 use Rattle.recursion.specs.Jobs.{Job, each}
 use Rattle.simplification.specs.Pass.{apply}
 use Rattle.simplification.proofs.Applying.{apply_kept}
 use Rattle.rebuilding.specs.Inner.Children.{setting, Agrees}
 use Rattle.pass.specs.Inner.Caches.{Caches}
 use Rattle.pass.specs.Inner.Applied.{Leads, Ready, Applies, EachReady, LeadsEach, went, stop, AppliesEach}
-use Rattle.recursion.specs.declared.Run.TheVariants as run
 use Rattle.recursion.proofs.Leading.{stands_ext}
 use Rattle.recursion.proofs.Turns.{below_snoc, after, after_none, after_more}
 use Rattle.pass.proofs.Leading.{leads_done, leads_stop}
@@ -117,7 +116,7 @@ module _ {w₀ s₀ : List ℕ} {c₀ : Counters} {n : ℕ} {items₀ : List ℕ
             caches = now.caches;
           }
 
-      module _ {w' s' dropped' kept' : List ℕ} {r : Interned} (D : Applies w s last x removable keep dropped kept w' s' dropped' kept' r) where
+      module _ {w' s' dropped' kept' : List ℕ} {r : Out (ℕ × Counters)} (D : Applies w s last x removable keep dropped kept w' s' dropped' kept' r) where
         module _ {table : ℕ} {a : Arena} {R : ℕ → Bool} (H : Holds table w₀ s₀ c₀ a) (A : Agrees removable R a n) (C : Caches (length w₀) (length s₀) R a dropped₀ kept₀) where
           f : ℕ → Job
           f y = apply (length w₀) (length s₀) a y (setting keep R)
@@ -137,22 +136,22 @@ module _ {w₀ s₀ : List ℕ} {c₀ : Counters} {n : ℕ} {items₀ : List ℕ
               subst (λ (k : (ℕ → Bool) → Job). Leads table I.arena R w' s' dropped' kept' r (k (setting keep R) I.arena)) p
               (D.is table I.arena R I.holds (agrees_kept I.ext (omega (arith, l)) (omega (arith, lower)) A) I.caches)
 
-          next : each f cs a ≡ after I.before (f x I.arena >>= λ (q : ℕ × Arena). each f (drop (suc i) cs) q.1 >>= λ (z : List ℕ × Arena). ok (q.0 ∷ z.0, z.1))
+          next : each f cs a ≡ after I.before (f x I.arena >>= λ (q : ℕ × Arena). each f (drop (suc i) cs) q.1 >>= λ (z : List ℕ × Arena). Ok (q.0 ∷ z.0, z.1))
           unfolding each
           next =
               let k : i < length cs = omega (arith, h, count_cs) in
               I.same ∙ ap (λ (y : List ℕ). after I.before (each f y I.arena)) (drop-cons cs i 0 k ∙ ap (λ (y : ℕ). y ∷ drop (suc i) cs) (sym (item_is I)))
 
-        pub turn_refused : {u : ℕ} → r ≡ interned.Refused u → AppliesEach w₀ s₀ c₀ n items₀ count removable keep dropped₀ kept₀ w' s' items dropped' kept' (run.Refused u)
+        pub turn_refused : {u : Refusal} → r ≡ Err u → AppliesEach w₀ s₀ c₀ n items₀ count removable keep dropped₀ kept₀ w' s' items dropped' kept' (Err u)
         unfolding ◌>>=◌ cs f
         turn_refused {u} q = record {
           is = λ table a R H A C.
               let S = leads_stop (led H A C) q in
-              let o : each (f H A C) cs a ≡ refuse u = next H A C ∙ ap (λ (z : Out (ℕ × Arena)). after (I H A C).before (z >>= λ (y : ℕ × Arena). each (f H A C) (drop (suc i) cs) y.1 >>= λ (v : List ℕ × Arena). ok (y.0 ∷ v.0, v.1))) S.is in
-              subst (LeadsEach table a R w' s' dropped' kept' items count (run.Refused u)) (sym o) (stop (stands_ext (I H A C).ext S.stands));
+              let o : each (f H A C) cs a ≡ Err u = next H A C ∙ ap (λ (z : Out (ℕ × Arena)). after (I H A C).before (z >>= λ (y : ℕ × Arena). each (f H A C) (drop (suc i) cs) y.1 >>= λ (v : List ℕ × Arena). Ok (y.0 ∷ v.0, v.1))) S.is in
+              subst (LeadsEach table a R w' s' dropped' kept' items count (Err u)) (sym o) (stop (stands_ext (I H A C).ext S.stands));
         }
 
-        pub turn_more : {m : ℕ} {d : Counters} → r ≡ interned.Node m d → length w' ≡ length w → length s' ≡ length s → Turn w₀ s₀ c₀ n items₀ count removable keep dropped₀ kept₀ w' s' (set items i m) dropped' kept' d (i + 1)
+        pub turn_more : {m : ℕ} {d : Counters} → r ≡ Ok (m, d) → length w' ≡ length w → length s' ≡ length s → Turn w₀ s₀ c₀ n items₀ count removable keep dropped₀ kept₀ w' s' (set items i m) dropped' kept' d (i + 1)
         unfolding ◌>>=◌ cs f
         turn_more {m} {d} q lw ls = record {
           ready = T.ready;
@@ -178,20 +177,20 @@ module _ {w₀ s₀ : List ℕ} {c₀ : Counters} {n : ℕ} {items₀ : List ℕ
                     ∙ sym (append_assoc J.before (m ∷ []) (drop (suc i) cs)) ∙ ap (λ (y : ℕ). (J.before ++ (m ∷ [])) ++ drop y cs) one;
                 low = below_snoc (length S.arena) J.before m (below_more (length J.arena) (length S.arena) J.before (ext_length J.arena S.arena S.ext) J.low) S.low;
                 same = next H A C
-                    ∙ ap (λ (z : Out (ℕ × Arena)). after J.before (z >>= λ (y : ℕ × Arena). each (f H A C) (drop (suc i) cs) y.1 >>= λ (v : List ℕ × Arena). ok (y.0 ∷ v.0, v.1))) S.is
+                    ∙ ap (λ (z : Out (ℕ × Arena)). after J.before (z >>= λ (y : ℕ × Arena). each (f H A C) (drop (suc i) cs) y.1 >>= λ (v : List ℕ × Arena). Ok (y.0 ∷ v.0, v.1))) S.is
                     ∙ after_more J.before m (each (f H A C) (drop (suc i) cs) S.arena) ∙ ap (λ (y : ℕ). after (J.before ++ (m ∷ [])) (each (f H A C) (drop y cs) S.arena)) one;
               };
         }
 
-    pub turn_done : count ≤ i → AppliesEach w₀ s₀ c₀ n items₀ count removable keep dropped₀ kept₀ w s items dropped kept (run.Went last)
+    pub turn_done : count ≤ i → AppliesEach w₀ s₀ c₀ n items₀ count removable keep dropped₀ kept₀ w s items dropped kept (Ok last)
     unfolding ◌>>=◌ each cs
     turn_done h = record {
       is = λ table a R H A C.
           let J = T.there table a R H A C in
           let none : drop i cs ≡ [] = drop_of_length-le cs {i = i} (omega (arith, h, count_cs)) in
           let g : ℕ → Job = λ y. apply (length w₀) (length s₀) a y (setting keep R) in
-          let o : each g cs a ≡ ok (J.before, J.arena) =
-          J.same ∙ ap (λ (y : List ℕ). after J.before (each g y J.arena)) none ∙ ap (λ (y : List ℕ). ok (y, J.arena)) (append-nil J.before) in
-          subst (LeadsEach table a R w s dropped kept items count (run.Went last)) (sym o)
+          let o : each g cs a ≡ Ok (J.before, J.arena) =
+          J.same ∙ ap (λ (y : List ℕ). after J.before (each g y J.arena)) none ∙ ap (λ (y : List ℕ). Ok (y, J.arena)) (append-nil J.before) in
+          subst (LeadsEach table a R w s dropped kept items count (Ok last)) (sym o)
           (went J.holds J.ext J.caches T.long (J.words ∙ ap (λ (y : List ℕ). J.before ++ y) none ∙ append-nil J.before) (omega (arith, J.place, T.turn, h)) J.low);
     }

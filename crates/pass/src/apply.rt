@@ -5,16 +5,15 @@ ghost use Rattle.recursion.specs.Inner.Work.{CoversRun};
 ghost use Rattle.pass.specs.Inner.Applied.{Ready, Applies, AppliesFirst, ListAt, FirstMember, EachReady, AppliesEach};
 
 use crate::cache::{cached, remember};
-use member_lists::{Closed, close_list};
+use member_lists::close_list;
 use node_reading::nodes::kind_at;
-use node_store::added::Interned;
 use node_store::children::child_words;
 use node_store::stored::node_at;
 use rebuilding::children::remaining;
 use rebuilding::node::rebuild;
-use recursion::{Run, item_at};
-use types::Counters;
+use recursion::item_at;
 use types::arc_ty::{Head, child, wide};
+use types::{Counters, Refusal};
 
 // The first member of the list n.
 fn first_member(words: &[u32], starts: &[u32], c: Counters, n: u32) -> u32
@@ -37,7 +36,7 @@ pub fn apply_simplification(
     dropped: &mut [u32; 4096],
     kept: &mut [u32; 4096],
     filter: &mut [u64; 2048],
-) -> Interned
+) -> Result<(u32, Counters), Refusal>
     requires ready { Ready words.old starts.old c n removable.now dropped.old kept.old }
     requires covers_lent { CoversLent words.old starts.old c filter.old }
     ensures applies { Applies words.old starts.old c n removable.now keep dropped.old
@@ -46,16 +45,16 @@ pub fn apply_simplification(
 {
     let hit = cached(dropped, kept, keep, n);
     if hit != 0 {
-        return Interned::Node(hit - 1, c);
+        return Ok((hit - 1, c));
     }
     let r = apply_simplification_uncached(
         words, starts, c, n, removable, keep, dropped, kept, filter,
     );
-    let Interned::Node(m, d) = r else {
+    let Ok((m, d)) = r else {
         return r;
     };
     remember(dropped, kept, keep, n, m);
-    Interned::Node(m, d)
+    Ok((m, d))
 }
 
 // The same, worked out: of a member list the members that remain are simplified and gathered, of any other node all children.
@@ -71,7 +70,7 @@ fn apply_simplification_uncached(
     dropped: &mut [u32; 4096],
     kept: &mut [u32; 4096],
     filter: &mut [u64; 2048],
-) -> Interned
+) -> Result<(u32, Counters), Refusal>
     requires ready { Ready words.old starts.old c n removable.now dropped.old kept.old }
     requires covers_lent { CoversLent words.old starts.old c filter.old }
     ensures applies { Applies words.old starts.old c n removable.now keep dropped.old
@@ -82,17 +81,14 @@ fn apply_simplification_uncached(
     let is_list = (kind == Head::UNION) | (kind == Head::INTERSECTION);
     let mut items = [0u32; 65];
     let count = remaining(words, starts, c, n, removable, !is_list | keep, &mut items);
-    let r = apply_each(
+    let d = apply_each(
         words, starts, c, n, &mut items, count, removable, keep, dropped, kept, filter,
-    );
-    let Run::Went(d) = r else {
-        return Interned::Refused(r.refusal());
-    };
+    )?;
     if !is_list {
         return rebuild(words, starts, d, n, &items, count, filter);
     }
     let closed = close_list(words, starts, d, kind, &items, count, n, filter);
-    let Closed::Done(done) = closed else {
+    let Some(done) = closed else {
         return apply_first(words, starts, d, n, removable, dropped, kept, filter);
     };
     done
@@ -109,7 +105,7 @@ fn apply_first(
     dropped: &mut [u32; 4096],
     kept: &mut [u32; 4096],
     filter: &mut [u64; 2048],
-) -> Interned
+) -> Result<(u32, Counters), Refusal>
     requires ready { Ready words.old starts.old c n removable.now dropped.old kept.old }
     requires list_at { ListAt words.old starts.old c n }
     requires covers_lent { CoversLent words.old starts.old c filter.old }
@@ -137,7 +133,7 @@ fn apply_each(
     dropped: &mut [u32; 4096],
     kept: &mut [u32; 4096],
     filter: &mut [u64; 2048],
-) -> Run
+) -> Result<Counters, Refusal>
     requires each_ready { EachReady words.old starts.old c n items.old count removable.now dropped.old kept.old }
     requires covers_lent { CoversLent words.old starts.old c filter.old }
     ensures applies_each { AppliesEach words.old starts.old c n items.old count removable.now keep
@@ -146,18 +142,13 @@ fn apply_each(
     ensures covers_run { CoversRun words.new starts.new result filter.new }
 {
     let mut last = c;
-    let mut i = 0;
-    while i < count {
+    for i in 0..count {
         let item = item_at(items, i);
-        let r = apply_simplification(
+        let (m, d) = apply_simplification(
             words, starts, last, item, removable, keep, dropped, kept, filter,
-        );
-        let Interned::Node(m, d) = r else {
-            return Run::Refused(r.refusal());
-        };
+        )?;
         items[i] = m;
         last = d;
-        i += 1;
     }
-    Run::Went(last)
+    Ok(last)
 }

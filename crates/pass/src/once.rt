@@ -4,9 +4,8 @@ ghost use Rattle.node_filter.specs.Inner.Filter.{CoversLent, CoversAfter};
 ghost use Rattle.pass.specs.Inner.Once.{SimplifiesOnce};
 
 use crate::apply::apply_simplification;
-use node_store::added::Interned;
-use types::Counters;
 use types::arc_ty::wide;
+use types::{Counters, Refusal};
 use walks::removable::one_signed;
 
 // What the root becomes, where the variables with places of one sign in its type are removable.
@@ -16,7 +15,7 @@ pub fn simplify_once(
     c: Counters,
     root: u32,
     filter: &mut [u64; 2048],
-) -> Interned
+) -> Result<(u32, Counters), Refusal>
     requires in_range { InRange words.old starts.old c root }
     requires covers_lent { CoversLent words.old starts.old c filter.old }
     ensures simplifies_once { SimplifiesOnce words.old starts.old c root words.new starts.new result }

@@ -7,7 +7,7 @@ ghost use Rattle.primitive.specs.Primitive.{primitive_text, is_number, is_float,
 
 use types::short_text::ShortText;
 
-#[derive(Clone, Copy)]
+#[derive(Clone, Copy, Debug, PartialEq, Eq)]
 pub struct PrimitiveTy {
     pub code: u32,
 }

@@ -15,6 +15,7 @@ pub fn read_full<R: Read>(reader: &mut R, bytes: &mut [u8]) -> io::Result<usize>
     ensures end { IfOk result (λ n. n < length bytes.new → IsAtEnd (R.Read.remaining reader.new)) }
 {
     let mut done = 0;
+    // `read_exact` of std says no count where the input ends, and `read_to_end` allocates.
     while done < bytes.len() {
         let count = reader.read(&mut bytes[done..])?;
         if count == 0 {

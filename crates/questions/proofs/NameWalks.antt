@@ -1,6 +1,6 @@
 -- The way down from a named type: each step keeps what the root stands for.
 use Prim.Native.Nat.{ℕ, ◌<◌}
-use mathlib.Core.Path.{◌≡◌, refl, sym, ap, ◌∙◌, subst}
+use mathlib.Core.Path.{◌≡◌, sym, ap, ◌∙◌, subst}
 use mathlib.Core.Bool.{true, false}
 use mathlib.Core.List.{List}
 use native.Mathlib.Omega.{arith}
@@ -46,9 +46,6 @@ pub record Down (w s : List ℕ) (c : Counters) (root n k : ℕ) : Type 0 where
   pub same : (table : ℕ) (a : Arena) → Holds table w s c a → unwrap_named a n ≡ unwrap_named a root
 
 module _ {w s : List ℕ} {c : Counters} {root : ℕ} where
-  pub down_start : InRange w s c root → {k : ℕ} → KindAt w s c root k → Down w s c root root k
-  down_start R K = record { lent = R.lent; inside = R.inside; kind = K; same = λ table a H. refl }
-
   module _ {n k : ℕ} (D : Down w s c root n k) where
     pub down_parent : k ≡ 9 → ParentAt w s c n
     down_parent e = record { lent = D.lent; inside = D.inside; number = k; kind = D.kind; parent = rw e }

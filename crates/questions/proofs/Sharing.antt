@@ -9,8 +9,9 @@ use native.Mathlib.Decide.{ℕ_discrete}
 use lib.ListN.{length, replicate, length-replicate}
 use lib.Dec.{eqb}
 use borrow.Author.Tests.{eqb-true, eq-eqb, ne_eqb}
-use mir.Syntax.{w32, w64}
-use mir.Val.{Fits}
+use Rattle.std.specs.Prelude as std
+use Rattle.std.specs.Prelude.{Some, None}
+use Rattle.types.specs.Out.{option_of}
 use Rattle.types.specs.Same.{same}
 use Rattle.types.specs.Kind as kinds
 use Rattle.types.specs.Node.{Node, node_dec}
@@ -20,8 +21,7 @@ use Rattle.types.specs.declared.Counters.{Counters}
 use Rattle.types.proofs.Tests.{true_false, and_true, both, not_true, same_true, same_if}
 use Rattle.types.proofs.Sound.{at_formed, child_lower, at_find}
 use Rattle.types.proofs.Addresses.{start_room}
-use Rattle.bits.specs.Bits.{has, Put}
-use Rattle.bits.specs.Inner.{Row}
+use Rattle.bits.specs.Bits.{has}
 use Rattle.bits.proofs.Sets.{has_none}
 use Rattle.node_store.specs.Inner.Stored.{Lent, InRange}
 use Rattle.walks.specs.Inner.Asked.{Says}
@@ -32,9 +32,7 @@ use Rattle.walks.proofs.Marks.{root_small}
 use Rattle.node_reading.specs.Nodes.{of_kind, is_var}
 use Rattle.node_reading.specs.Inner.{KindAt, ParentAt, FirstChild}
 use Rattle.questions.specs.Lambdas.{param_of, takes_var, same_var, some_below, shared_in, has_shared_tyvar_across_lambda_params}
-use Rattle.questions.specs.Inner.Lambdas.{param_out, taken, passes, ParamAt, ParamRow, Seeing, Shares}
-use Rattle.questions.specs.declared.lambdas.Param.{Param}
-use Rattle.questions.specs.declared.lambdas.Param.TheVariants as param
+use Rattle.questions.specs.Inner.Lambdas.{taken, passes, ParamAt, ParamRow, Seeing, Shares}
 use Rattle.node_reading.proofs.NodeReads.{first_there, first_range}
 
 -- ---- what one node takes
@@ -42,7 +40,7 @@ module _ {w s : List ℕ} {c : Counters} {n k : ℕ} (R : InRange w s c n) (K : 
   lambda_is : (table : ℕ) (a : Arena) → Holds table w s c a → of_kind kinds.lambda (at a n) ≡ eqb k 5
   lambda_is table a H = ap (λ (x : ℕ). eqb x 5) (sym (K.is table a H))
 
-  pub no_lambda : (k ≡ 5 → ⊥) → ParamAt w s c true n param.Other
+  pub no_lambda : (k ≡ 5 → ⊥) → ParamAt w s c true n None
   unfolding taken
   no_lambda f = record { is = λ table a H. sym (rw (taken, lambda_is table a H, ne_eqb k 5 f)) }
 
@@ -57,55 +55,26 @@ module _ {w s : List ℕ} {c : Counters} {n k : ℕ} (R : InRange w s c n) (K : 
       var_is : (table : ℕ) (a : Arena) → Holds table w s c a → is_var (at a (param_of a n)) ≡ eqb j 3
       var_is table a H = ap (λ (x : ℕ). is_var (at a x)) (sym (F.is table a H)) ∙ ap (λ (x : ℕ). eqb x 3) (sym (P.is table a H))
 
-      pub no_variable : (j ≡ 3 → ⊥) → ParamAt w s c true n param.Other
+      pub no_variable : (j ≡ 3 → ⊥) → ParamAt w s c true n None
       unfolding taken
       no_variable f = record { is = λ table a H. sym (rw (taken, lambda_is table a H, eq-eqb k 5 e, var_is table a H, ne_eqb j 3 f)) }
 
-      pub takes_one : j ≡ 3 → ParamAt w s c true n (param.Var p)
+      pub takes_one : j ≡ 3 → ParamAt w s c true n (Some p)
       unfolding taken
       takes_one q = record {
         is = λ table a H. ap some (F.is table a H) ∙ sym (rw (taken, lambda_is table a H, eq-eqb k 5 e, var_is table a H, eq-eqb j 3 q));
       }
 
 module _ {w s : List ℕ} {c : Counters} (met : List ℕ) (n : ℕ) {b : Bool} (e : b ≡ has met n) where
-  pub param_unmet : b ≡ false → ParamAt w s c (has met n) n param.Other
+  pub param_unmet : b ≡ false → ParamAt w s c (has met n) n None
   unfolding taken
   param_unmet f = record { is = λ table a H. sym (rw (taken, sym e ∙ f)) }
 
-  pub param_met : b ≡ true → {r : Param} → ParamAt w s c true n r → ParamAt w s c (has met n) n r
-  param_met f {r} P = subst (λ (x : Bool). ParamAt w s c x n r) (sym (sym e ∙ f)) P
-
 -- ---- the set
-module _ {seen : List ℕ} {o : Param} where
-  pub none_seen : o ≡ param.Other → Seeing seen (param_out o) seen false
-  none_seen e = record { long = refl; is = sym (ap (λ (x : Param). passes (has seen) (param_out x)) e); grown = λ r q. sym (rw e) }
 
-module _ {seen : List ℕ} {o : Param} {p : ℕ} (R : ParamRow seen (param_out o)) (e : o ≡ param.Var p) where
-  out : param_out o ≡ some p
-  out = ap param_out e
-
-  pub param_small : p < 4096
-  param_small = R.small p out
-
-  pub param_fits : Fits w32 p
-  param_fits = omega (arith, param_small)
-
-  pub param_row : Row seen p
-  param_row = record { long = R.long; inside = param_small }
-
-  module _ {b : Bool} (h : b ≡ has seen p) where
-    pub was_seen : b ≡ true → Seeing seen (param_out o) seen true
-    was_seen q = record { long = refl; is = sym (ap (passes (has seen)) out ∙ sym h ∙ q); grown = λ r. absurd (true_false r) }
-
-    pub now_seen : b ≡ false → {t : List ℕ} → Put seen p t → Seeing seen (param_out o) t false
-    now_seen q {t} P = record { long = P.long; is = sym (ap (passes (has seen)) out ∙ sym h ∙ q); grown = λ r m. grown m }
-      where
-        grown : (m : ℕ) → has t m ≡ (passes (eqb m) (param_out o) || has seen m)
-        grown m = go (ℕ_discrete m p)
-          where
-            go : Dec (m ≡ p) → has t m ≡ (passes (eqb m) (param_out o) || has seen m)
-            go (yes z) = ap (has t) z ∙ P.new ∙ sym (rw (out, eq-eqb m p z))
-            go (no z) = P.old m z ∙ sym (rw (out, ne_eqb m p z))
+module _ {seen : List ℕ} {o : std.Option ℕ} {p : ℕ} (R : ParamRow seen (option_of o)) (e : o ≡ Some p) where
+  out : option_of o ≡ some p
+  out = ap option_of e
 
 -- ---- pairs
 some_none : (f : ℕ → Bool) (n : ℕ) → ((m : ℕ) → m < n → f m ≡ false) → some_below f n ≡ false
@@ -214,13 +183,10 @@ module _ {w s : List ℕ} {c : Counters} {met : List ℕ} where
     pub sharing_here : n < c.nodes → InRange w s c n
     sharing_here l = record { lent = S.lent; inside = l }
 
-    pub sharing_next : n < c.nodes → Fits w64 (n + 1)
-    sharing_next l = let k = root_small (sharing_here l) in omega (arith, k)
-
     within : {table : ℕ} {a : Arena} → n < c.nodes → Holds table w s c a → n < length a
     within l H = subst (λ (k : ℕ). n < k) H.nodes l
 
-    pub sharing_row : n < c.nodes → {r : Param} → ParamAt w s c (has met n) n r → ParamRow seen (param_out r)
+    pub sharing_row : n < c.nodes → {r : std.Option ℕ} → ParamAt w s c (has met n) n r → ParamRow seen (option_of r)
     sharing_row l {r} P = record {
       long = S.long;
       small = λ p e.
@@ -231,12 +197,12 @@ module _ {w s : List ℕ} {c : Counters} {met : List ℕ} where
           omega (arith, low, k);
     }
 
-    module _ (l : n < c.nodes) {r : Param} (P : ParamAt w s c (has met n) n r) {seen' : List ℕ} {b : Bool} (G : Seeing seen (param_out r) seen' b) where
+    module _ (l : n < c.nodes) {r : std.Option ℕ} (P : ParamAt w s c (has met n) n r) {seen' : List ℕ} {b : Bool} (G : Seeing seen (option_of r) seen' b) where
       pub sharing_found : b ≡ true → Shares w s c met true
       unfolding shared_in
       sharing_found e = record {
         is = λ table a H.
-            let x = passes_some (has seen) (param_out r) (sym G.is ∙ e) in
+            let x = passes_some (has seen) (option_of r) (sym G.is ∙ e) in
             let E = S.out table a H x.0 x.2 in
             let T = takes_some (has met E.node) a E.node x.0 E.is in
             let U = takes_some (has met n) a n x.0 (sym (P.is table a H) ∙ x.1) in
@@ -250,28 +216,28 @@ module _ {w s : List ℕ} {c : Counters} {met : List ℕ} where
       sharing_more e = record { lent = S.lent; turn = omega arith; long = G.long ∙ S.long; out = out; into = into; none = none' }
         where
           out : (table : ℕ) (a : Arena) → Holds table w s c a → (p : ℕ) → has seen' p ≡ true → Earlier (has met) a (n + 1) p
-          out table a H p x = go (passes (eqb p) (param_out r)) refl (sym (G.grown e p) ∙ x)
+          out table a H p x = go (passes (eqb p) (option_of r)) refl (sym (G.grown e p) ∙ x)
             where
-              go : (d : Bool) → passes (eqb p) (param_out r) ≡ d → (d || has seen p) ≡ true → Earlier (has met) a (n + 1) p
+              go : (d : Bool) → passes (eqb p) (option_of r) ≡ d → (d || has seen p) ≡ true → Earlier (has met) a (n + 1) p
               go true q y =
-                  let z = passes_some (eqb p) (param_out r) q in
+                  let z = passes_some (eqb p) (option_of r) q in
                   record { node = n; low = omega arith; is = sym (P.is table a H) ∙ z.1 ∙ ap some (sym (eqb-true p z.0 z.2)) }
               go false q y = let E = S.out table a H p y in record { node = E.node; low = omega (arith, E.low); is = E.is }
 
           into : (table : ℕ) (a : Arena) → Holds table w s c a → (m p : ℕ) → m < n + 1 → taken (has met m) a m ≡ some p → has seen' p ≡ true
           into table a H m p k x = G.grown e p ∙ go (ℕ_discrete m n)
             where
-              go : Dec (m ≡ n) → (passes (eqb p) (param_out r) || has seen p) ≡ true
+              go : Dec (m ≡ n) → (passes (eqb p) (option_of r) || has seen p) ≡ true
               go (yes q) =
-                  let y : param_out r ≡ some p = P.is table a H ∙ ap (λ (j : ℕ). taken (has met j) a j) (sym q) ∙ x in
+                  let y : option_of r ≡ some p = P.is table a H ∙ ap (λ (j : ℕ). taken (has met j) a j) (sym q) ∙ x in
                   rw (y, eq-eqb p p refl)
-              go (no q) = or_right (passes (eqb p) (param_out r)) (has seen p) (S.into table a H m p (omega (arith, k, q)) x)
+              go (no q) = or_right (passes (eqb p) (option_of r)) (has seen p) (S.into table a H m p (omega (arith, k, q)) x)
 
           new : (table : ℕ) (a : Arena) → Holds table w s c a → (m : ℕ) → m < n → ((has met m && has met n) && same_var a m n) ≡ true → ⊥
           new table a H m k x =
               let y = pair_takes table a H.good (has met m) (has met n) m n (let j = within l H in omega (arith, k, j)) (within l H) x in
               let z = S.into table a H m (param_of a m) k (some_takes y.0) in
-              let o : param_out r ≡ some (param_of a m) = P.is table a H ∙ some_takes y.1 in
+              let o : option_of r ≡ some (param_of a m) = P.is table a H ∙ some_takes y.1 in
               true_false (sym (G.is ∙ ap (passes (has seen)) o ∙ z) ∙ e)
 
           none' : (table : ℕ) (a : Arena) → Holds table w s c a → (m k : ℕ) → m < k → k < n + 1 → ((has met m && has met k) && same_var a m k) ≡ false

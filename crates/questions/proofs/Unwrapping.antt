@@ -6,7 +6,7 @@ use mathlib.Core.List.{List, [], ◌∷◌}
 use native.Mathlib.Omega.{arith}
 use lib.ListN.{length, get_or}
 use lib.Dec.{eqb}
-use Rattle.types.specs.Out.{ok}
+use Rattle.std.specs.Prelude.{Ok}
 use Rattle.types.specs.Kind as kinds
 use Rattle.types.specs.Node.{children}
 use Rattle.types.specs.Arena.{Arena}
@@ -33,7 +33,7 @@ stands : (a : Arena) (root : ℕ) → root < length a → unwrap_named a root < 
 stands a root l = omega (arith, within a root)
 
 -- ---- in lent memory, which holds at most 4,096 nodes
-module _ (t w s : List ℕ) (c : Counters) (root n : ℕ) (e : ask_reply unwrap_named t w s c root ≡ ok n) where
+module _ (t w s : List ℕ) (c : Counters) (root n : ℕ) (e : ask_reply unwrap_named t w s c root ≡ Ok n) where
   record Answer : Type 0 where
     pub inside : n < c.nodes
     pub few : c.nodes ≤ 4096

@@ -9,8 +9,6 @@ use lib.ListN.{length, get_or, drop, replicate, length-replicate, length-map, dr
 use lib.Seq.{drop-cons}
 use lib.Dec.{eqb}
 use borrow.Author.Tests.{eq-eqb, ne_eqb}
-use mir.Syntax.{w64}
-use mir.Val.{Fits}
 use Rattle.words.specs.Words.{head_kind, child}
 use Rattle.types.specs.Node.{Tag, tag, kind, children}
 use Rattle.types.specs.Kind.{disc}
@@ -20,7 +18,7 @@ use Rattle.types.specs.Memory.{Holds}
 use Rattle.types.specs.declared.Counters.{Counters}
 use Rattle.types.proofs.Faults.{children_encode}
 use Rattle.types.proofs.Sound.{at_formed, children_below, map_below, fold_at}
-use Rattle.bits.specs.Bits.{has, Put}
+use Rattle.bits.specs.Bits.{has}
 use Rattle.bits.specs.Inner.{Row}
 use Rattle.bits.proofs.Sets.{has_none}
 use Rattle.node_store.specs.Inner.Stored.{InRange, NodeAt}
@@ -45,9 +43,6 @@ next_of f cs i l =
     ap some_of (drop-cons (map f cs) i (f 0) k) ∙ (λ j. get_or-map f cs i 0 j || some_of (drop (e j) (map f cs)))
 
 module _ {b met : List ℕ} {from : ℕ} where
-  pub looking_start : Looking b met from from
-  looking_start = record { same = refl }
-
   module _ {i : ℕ} (L : Looking b met from i) where
     split : {m : ℕ} {t : Bool} → i < length b → m ≡ child (get_or b i 0) → t ≡ has met m → some_of (drop from (map (has met) (map child b))) ≡ (t || some_of (drop (i + 1) (map (has met) (map child b))))
     unfolding child
@@ -103,13 +98,6 @@ or_none : (b : Bool) {c : Bool} → c ≡ false → (b || c) ≡ b
 or_none true e = refl
 or_none false e = e
 
-module _ {b d : Bool} {n : ℕ} {s : List ℕ} (e : d ≡ b) where
-  pub learned : d ≡ true → {t : List ℕ} → Put s n t → Learned b n s t
-  learned p P = record { long = P.long; new = P.new ∙ sym (rw (sym e ∙ p)); old = P.old }
-
-  pub nothing_learned : d ≡ false → Learned b n s s
-  nothing_learned p = record { long = refl; new = sym (rw (sym e ∙ p)); old = λ m f. refl }
-
 -- ---- the nodes passed
 pub record Knowing (w s : List ℕ) (c : Counters) (skip : Bool) (root : ℕ) (met : List ℕ) (n : ℕ) : Type 0 where
   pub range : InRange w s c root
@@ -135,9 +123,6 @@ module _ {w s : List ℕ} {c : Counters} {skip : Bool} {root : ℕ} where
     pub knowing_row : n < root → Row met n
     knowing_row l = record { long = K.long; inside = root_small (knowing_here l) }
 
-    pub knowing_next : n < root → Fits w64 (n + 1)
-    knowing_next l = let k = root_small (knowing_here l) in omega (arith, k)
-
     pub knowing_more : n < root → {ws t : List ℕ} → NodeAt w s c n ws → Learned (words_have skip (has met) ws) n met t → Knowing w s c skip root t (n + 1)
     knowing_more l {ws} {t} N L = record { range = K.range; turn = omega arith; long = L.long ∙ K.long; known = known; rest = λ m k. L.old m (λ q. omega (arith, k, q)) ∙ K.rest m (omega arith) }
       where
@@ -150,9 +135,6 @@ module _ {w s : List ℕ} {c : Counters} {skip : Bool} {root : ℕ} where
             go : Dec (m ≡ n) → has t m ≡ has_var skip a m
             go (yes q) = subst (λ (x : ℕ). has t x ≡ has_var skip a x) (sym q) (new table a H)
             go (no q) = L.old m q ∙ K.known table a H m (omega (arith, k, q))
-
-    pub knowing_root : InRange w s c root
-    knowing_root = K.range
 
     pub knowing_done : root ≤ n → {ws : List ℕ} {b : Bool} → NodeAt w s c root ws → b ≡ words_have skip (has met) ws → Says (has_var skip) w s c root b
     knowing_done h N e = record {

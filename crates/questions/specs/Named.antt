@@ -1,20 +1,12 @@
 -- What a name stands for.
 use Rattle.std.specs.Prelude.{ℕ, true, false, length, get_or}
-use Rattle.types.specs.Out.{Out, ok, refuse}
 use Rattle.types.specs.Kind as kinds
 use Rattle.types.specs.Node.{Node, children}
 use Rattle.types.specs.Arena.{Arena, rec}
 use Rattle.node_reading.specs.Nodes.{of_kind}
-use Rattle.questions.specs.declared.named.Unwrapped.{Unwrapped}
-use Rattle.questions.specs.declared.named.Unwrapped.TheVariants as unwrapped
 
 -- a named type stands for what its one child stands for, and any other node for itself (01, "arena")
 unfoldable pub unwrap_named : Arena → ℕ → ℕ
 unfolding rec
 unwrap_named =
     rec (λ (s : Arena) (x : Node) (f : ℕ → ℕ). elim (of_kind kinds.named x) [ true ↦ f (get_or (children x) 0 0) | false ↦ length s ]) 0
-
--- the enum's cases: the number of a node; that of a refusal
-abbrev pub unwrapped_out : Unwrapped → Out ℕ
-unwrapped_out (unwrapped.Node n) = ok n
-unwrapped_out (unwrapped.Refused e) = refuse e

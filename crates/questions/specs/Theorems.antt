@@ -1,11 +1,10 @@
 -- What is shown of these definitions beyond the contracts. A statement with parameters holds for all of them.
-use Rattle.std.specs.Prelude.{ℕ, ◌<◌, ◌≡◌, Bool, true, false, List, length}
+use Rattle.std.specs.Prelude.{ℕ, ◌<◌, ◌≡◌, Bool, true, false, List, length, Ok}
 use Rattle.types.specs.Node.{Polarity}
 use Rattle.types.specs.Arena.{Arena, at, sound}
 use Rattle.types.specs.Places.{Place}
 use Rattle.node_reading.specs.Nodes.{is_var}
 use Rattle.questions.specs.Vars.{has_var, Walk}
-use Rattle.types.specs.Out.{ok}
 use Rattle.types.specs.declared.Counters.{Counters}
 use Rattle.walks.specs.Asked.{ask_reply}
 use Rattle.questions.specs.Named.{unwrap_named}
@@ -36,4 +35,4 @@ PlaceWalk a n u s p = Place a n s u p → Walk false a n u
 -- what a root stands for is a node of its arena, and what `unwrap_named` answers one of the lent nodes (01, "arena")
 pub record UnwrapsToNode : Type 0 where
   pub stands : (a : Arena) (root : ℕ) → root < length a → unwrap_named a root < length a
-  pub answers : (t w s : List ℕ) (c : Counters) (root n : ℕ) → ask_reply unwrap_named t w s c root ≡ ok n → n < c.nodes
+  pub answers : (t w s : List ℕ) (c : Counters) (root n : ℕ) → ask_reply unwrap_named t w s c root ≡ Ok n → n < c.nodes

@@ -1,14 +1,11 @@
 -- Has the type of a root a variable, anywhere or outside lambdas' params? (01, "arena")
 use Rattle.std.specs.Prelude.{ℕ, ◌<◌, ◌≤◌, Bool, true, false, ◌&&◌, ◌||◌, List, length, get_or, drop, eqb}
 use Rattle.words.specs.Words.{bit}
-use Rattle.types.specs.Out.{Out, ok, refuse}
 use Rattle.types.specs.Kind as kinds
 use Rattle.types.specs.Kind.{disc}
 use Rattle.types.specs.Node.{Tag, tag, kind, children}
 use Rattle.types.specs.Arena.{Arena, at, fold}
 use Rattle.walks.specs.Reach.{some_of}
-use Rattle.questions.specs.declared.vars.Asked.{Asked}
-use Rattle.questions.specs.declared.vars.Asked.TheVariants as asked
 
 -- how many of the first children of a node of this kind are passed over: a lambda's param, if `skip` says so
 abbrev pub passed_over : Bool → ℕ → ℕ
@@ -36,8 +33,3 @@ pub data Walk (skip : Bool) (a : Arena) : ℕ → ℕ → Type 0 where
   self : {n : ℕ} → Walk skip a n n
   down : {n u : ℕ} (i : ℕ) → passed_over skip (disc (kind (tag (at a n)))) ≤ i → i < length (children (at a n))
       → Walk skip a (get_or (children (at a n)) i 0) u → Walk skip a n u
-
--- the enum's cases: whether it is so; the number of a refusal
-abbrev pub asked_out : Asked → Out Bool
-asked_out (asked.Is b) = ok b
-asked_out (asked.Refused e) = refuse e

@@ -3,12 +3,12 @@ ghost use Rattle.std.specs.Prelude.{◌≡◌};
 ghost use Rattle.node_store.specs.Inner.Stored.{Lent, InRange};
 ghost use Rattle.walks.specs.Asked.{ask_reply};
 ghost use Rattle.walks.specs.Inner.Asked.{Says, Answers};
-ghost use Rattle.questions.specs.Named.{unwrap_named, unwrapped_out};
+ghost use Rattle.questions.specs.Named.{unwrap_named};
 
 use node_reading::nodes::{first_child, kind_at};
-use soundness::{Judged, judge};
-use types::Counters;
+use soundness::judge;
 use types::arc_ty::{Head, wide};
+use types::{Counters, Refusal};
 
 // The first node on the way down from the root that is no named type.
 fn stands_for(words: &[u32], starts: &[u32], c: Counters, root: usize) -> usize
@@ -17,6 +17,7 @@ fn stands_for(words: &[u32], starts: &[u32], c: Counters, root: usize) -> usize
 {
     let mut n = root;
     let mut kind = kind_at(words, starts, c, n);
+    // No `for`: how many named types lie on the way isn't known before.
     while kind == Head::NAMED {
         n = first_child(words, starts, c, n);
         kind = kind_at(words, starts, c, n);
@@ -24,22 +25,15 @@ fn stands_for(words: &[u32], starts: &[u32], c: Counters, root: usize) -> usize
     n
 }
 
-// A node's number, or that of a refusal.
-#[derive(Clone, Copy)]
-pub enum Unwrapped {
-    Node(usize),
-    Refused(u32),
-}
-
 // What the root stands for, in an arena that is known to be sound.
-fn unwrap_in(words: &[u32], starts: &[u32], c: Counters, root: usize) -> Unwrapped
+fn unwrap_in(words: &[u32], starts: &[u32], c: Counters, root: usize) -> Result<usize, Refusal>
     requires { Lent words.now starts.now c }
-    ensures { Answers unwrap_named words.now starts.now c root (unwrapped_out result) }
+    ensures { Answers unwrap_named words.now starts.now c root result }
 {
     if root >= c.nodes {
-        return Unwrapped::Refused(6);
+        return Err(Refusal::NoSuchRoot);
     }
-    Unwrapped::Node(stands_for(words, starts, c, root))
+    Ok(stands_for(words, starts, c, root))
 }
 
 // What the root stands for.
@@ -49,12 +43,9 @@ pub fn unwrap_named(
     starts: &[u32],
     c: Counters,
     root: u32,
-) -> Unwrapped
-    ensures { unwrapped_out result ≡ ask_reply unwrap_named table.now words.now starts.now c root }
+) -> Result<usize, Refusal>
+    ensures { result ≡ ask_reply unwrap_named table.now words.now starts.now c root }
 {
-    let lent = judge(table, words, starts, c);
-    match lent {
-        Judged::Names(count) => unwrap_in(words, starts, c, wide(root)),
-        Judged::Refused(number) => Unwrapped::Refused(number),
-    }
+    judge(table, words, starts, c)?;
+    unwrap_in(words, starts, c, wide(root))
 }

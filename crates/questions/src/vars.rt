@@ -8,27 +8,25 @@ ghost use Rattle.node_store.specs.Inner.Stored.{Lent, InRange};
 ghost use Rattle.walks.specs.Asked.{ask_reply};
 ghost use Rattle.walks.specs.Inner.Asked.{Says, Answers};
 ghost use Rattle.walks.specs.Reach.{some_of};
-ghost use Rattle.questions.specs.Vars.{has_var, has_type_vars, contains_bare_tyvar, asked_out};
+ghost use Rattle.questions.specs.Vars.{has_var, has_type_vars, contains_bare_tyvar};
 ghost use Rattle.questions.specs.Inner.Vars.{words_have, Learned};
 
 use bits::{put, test};
 use node_reading::nodes::kind_in;
 use node_store::children::child_words;
 use node_store::stored::node_at;
-use soundness::{Judged, judge};
-use types::Counters;
+use soundness::judge;
 use types::arc_ty::{Head, child, wide};
+use types::{Counters, Refusal};
 
 // Whether one of the children in the body of a node, from one on, is in the set.
 fn some_child(body: &[u32], from: usize, met: &[u64; 64]) -> bool
     ensures { result ≡ some_of (drop from (map (has met.now) (map child body.now))) }
 {
-    let mut i = from;
-    while i < body.len() {
+    for i in from..body.len() {
         if test(met, child(body[i])) {
             return true;
         }
-        i += 1;
     }
     false
 }
@@ -64,46 +62,53 @@ pub fn has_var(words: &[u32], starts: &[u32], c: Counters, root: usize, skip: bo
     ensures { Says (has_var skip) words.now starts.now c root result }
 {
     let mut met = [0u64; 64];
-    let mut n = 0;
-    while n < root {
+    for n in 0..root {
         learn(node_at(words, starts, c, n), skip, n, &mut met);
-        n += 1;
     }
     words_have(node_at(words, starts, c, root), skip, &met)
 }
 
-// Whether it is so, or the number of a refusal.
-#[derive(Clone, Copy)]
-pub enum Asked {
-    Is(bool),
-    Refused(u32),
-}
-
 // The same in an arena that is known to be sound, for any root.
-fn has_var_in(words: &[u32], starts: &[u32], c: Counters, root: usize, skip: bool) -> Asked
+fn has_var_in(
+    words: &[u32],
+    starts: &[u32],
+    c: Counters,
+    root: usize,
+    skip: bool,
+) -> Result<bool, Refusal>
     requires { Lent words.now starts.now c }
-    ensures { Answers (has_var skip) words.now starts.now c root (asked_out result) }
+    ensures { Answers (has_var skip) words.now starts.now c root result }
 {
     if root >= c.nodes {
-        return Asked::Refused(6);
+        return Err(Refusal::NoSuchRoot);
     }
-    Asked::Is(has_var(words, starts, c, root, skip))
+    Ok(has_var(words, starts, c, root, skip))
 }
 
 // The same in any memory.
-fn ask_var(table: &[u8], words: &[u32], starts: &[u32], c: Counters, root: u32, skip: bool) -> Asked
-    ensures { asked_out result ≡ ask_reply (has_var skip) table.now words.now starts.now c root }
+fn ask_var(
+    table: &[u8],
+    words: &[u32],
+    starts: &[u32],
+    c: Counters,
+    root: u32,
+    skip: bool,
+) -> Result<bool, Refusal>
+    ensures { result ≡ ask_reply (has_var skip) table.now words.now starts.now c root }
 {
-    let lent = judge(table, words, starts, c);
-    match lent {
-        Judged::Names(count) => has_var_in(words, starts, c, wide(root), skip),
-        Judged::Refused(number) => Asked::Refused(number),
-    }
+    judge(table, words, starts, c)?;
+    has_var_in(words, starts, c, wide(root), skip)
 }
 
 // Whether the type of the root has a variable.
-pub fn has_type_vars(table: &[u8], words: &[u32], starts: &[u32], c: Counters, root: u32) -> Asked
-    ensures { asked_out result ≡ ask_reply has_type_vars table.now words.now starts.now c root }
+pub fn has_type_vars(
+    table: &[u8],
+    words: &[u32],
+    starts: &[u32],
+    c: Counters,
+    root: u32,
+) -> Result<bool, Refusal>
+    ensures { result ≡ ask_reply has_type_vars table.now words.now starts.now c root }
 {
     ask_var(table, words, starts, c, root, false)
 }
@@ -115,8 +120,8 @@ pub fn contains_bare_tyvar(
     starts: &[u32],
     c: Counters,
     root: u32,
-) -> Asked
-    ensures { asked_out result ≡ ask_reply contains_bare_tyvar table.now words.now starts.now c root }
+) -> Result<bool, Refusal>
+    ensures { result ≡ ask_reply contains_bare_tyvar table.now words.now starts.now c root }
 {
     ask_var(table, words, starts, c, root, true)
 }
@@ -128,8 +133,8 @@ pub fn needs_var_normalization(
     starts: &[u32],
     c: Counters,
     root: u32,
-) -> Asked
-    ensures { asked_out result ≡ ask_reply has_type_vars table.now words.now starts.now c root }
+) -> Result<bool, Refusal>
+    ensures { result ≡ ask_reply has_type_vars table.now words.now starts.now c root }
 {
     has_type_vars(table, words, starts, c, root)
 }

@@ -131,9 +131,6 @@ module _ {w s : List ℕ} {c : Counters} {n : ℕ} {removable : List ℕ} {keep 
             A.is ∙ (λ k. C.is table a R H G k ++ unless (g k) m) ∙ sym (remaining_snoc T a (take i cs) m) ∙ ap (remaining T a) p;
       }
 
-    pub copied_space : i < length b → Space items count
-    copied_space l = record { long = C.long; few = omega (arith, l, C.few, C.few_words) }
-
     pub copied_done : length b ≤ i → Remains w s c n removable keep (record { items = items; count = count })
     copied_done l = record {
       is = λ table a R H G. record {

@@ -1,14 +1,16 @@
 -- A node's words with other children: field words and child words alike have the child in their lowest bits, so that one exchange serves both.
 use Prim.Native.Nat.{ℕ, zero, suc, ◌+◌, ◌-◌, ◌^◌, ◌<◌, ◌≤◌}
 use mathlib.Core.Path.{◌≡◌, refl, sym, ap, ap₂, ◌∙◌}
-use mathlib.Core.Bool.{Bool, true, false}
+use mathlib.Core.Bool.{Bool, true, false, true≢false}
 use mathlib.Core.List.{List, [], ◌∷◌, ◌++◌, map}
 use native.Mathlib.Omega.{arith}
 use native.Mathlib.Numerals.{add-one}
 use native.Mathlib.Decide.{ℕ_discrete}
-use lib.ListN.{length, get_or, take, drop, set, length-set, length-map, length-drop, get_or-map}
+use lib.ListN.{length, get_or, take, drop, set, length-set, length-drop}
 use lib.Seq.{get_or-take, get_or-drop, length-take-le, ext_get_or, get_or-set_same, get_or-set_other}
-use borrow.Author.Tests.{eqb-true}
+use lib.Dec.{eqb}
+use borrow.Author.Tests.{eqb-true, eq-eqb}
+use Rattle.std.specs.List.{list_all, zip}
 use Rattle.words.specs.declared.Layout.TheVariants as layout
 use Rattle.words.specs.Words.{head_word, field_word, child}
 use Rattle.words.proofs.Words.{field_made}
@@ -16,46 +18,38 @@ use Rattle.types.specs.Same.{same_numbers}
 use Rattle.types.specs.Kind.{disc, body_count}
 use Rattle.types.specs.Node.{positive, negative, Field, field, primitive, list, lambda, attrset, named, Tag, members, bound, var, neg, form, node, kind, data_of, field_names, child_words, child_words_in, body, head_of, encode, encode_in, below}
 use Rattle.types.proofs.Lists.{below_at, below_cons}
+use Rattle.types.proofs.Tests.{and_true, numbers_if, numbers_not}
 use Rattle.types.proofs.Nodes.{length_child_words, Formed}
 use Rattle.node_store.proofs.Offspring.{child_inside}
-use Rattle.node_order.proofs.Splits.{body_lent}
-use Rattle.node_store.proofs.Loops.{Agree, agree_start, agree_more, agree_fails, agree_done}
-use Rattle.rebuilding.specs.Inner.Rebuilt.{with_child, AsMany, OneEach, Exchanging, Exchanged}
+use Rattle.types.proofs.Lists.{body_lent}
+use Rattle.rebuilding.specs.Inner.Rebuilt.{with_child, AsMany, Exchanging, Exchanged}
 
--- ---- the children as they were
 pub length_given : {ws items : List ℕ} {count : ℕ} → AsMany ws items count → length (take count items) ≡ count
 length_given {items = items} {count} G = length-take-le count items (omega (arith, G.long, G.few))
 
-module _ {b items : List ℕ} {count : ℕ} (G : OneEach b items count) where
-  many : length (map child b) ≡ count
-  many = length-map b child ∙ sym G.count_is
+-- ---- the children as they were
+-- whether each word of a body has the item beside it for its child
+abbrev pub fits : ℕ × ℕ → Bool
+fits p = eqb (child p.0) p.1
 
-  pub same_start : Agree (map child b) (take count items) 0
-  same_start = agree_start (many ∙ sym (length-take-le count items (omega (arith, G.long, G.few))))
+if_fits : (b xs : List ℕ) → length b ≡ length xs → list_all fits (zip b xs) ≡ true → map child b ≡ xs
+if_fits [] [] e t = refl
+if_fits [] (y ∷ ys) e t = absurd (omega arith)
+if_fits (x ∷ xs) [] e t = absurd (omega arith)
+if_fits (x ∷ xs) (y ∷ ys) e t =
+    let h = and_true (eqb (child x) y) (list_all fits (zip xs ys)) t in
+    ap₂ (λ (c : ℕ) (cs : List ℕ). c ∷ cs) (eqb-true (child x) y h.0) (if_fits xs ys (omega arith) h.1)
 
-  module _ {i : ℕ} (l : i < count) where
-    pub same_in : i < length b
-    same_in = omega (arith, l, G.count_is)
+its_own : (b : List ℕ) → list_all fits (zip b (map child b)) ≡ true
+its_own [] = refl
+its_own (x ∷ xs) = rw (eq-eqb (child x) (child x) refl) (its_own xs)
 
-    pub same_item : i < 65
-    same_item = omega (arith, l, G.few)
-
-    module _ {m : ℕ} (e : m ≡ child (get_or b i 0)) (A : Agree (map child b) (take count items) i) where
-      in_children : i < length (map child b)
-      in_children = omega (arith, l, many)
-
-      is_child : m ≡ get_or (map child b) i 0
-      unfolding child
-      is_child = e ∙ sym (get_or-map child b i 0)
-
-      pub same_more : m ≡ get_or items i 0 → Agree (map child b) (take count items) (i + 1)
-      same_more q = agree_more A in_children (sym is_child ∙ q ∙ sym (get_or-take count items i 0 l))
-
-      pub same_fails : (m ≡ get_or items i 0 → ⊥) → false ≡ same_numbers (map child b) (take count items)
-      same_fails f = agree_fails A in_children (λ q. f (is_child ∙ q ∙ get_or-take count items i 0 l))
-
-  pub same_done : {i : ℕ} → Agree (map child b) (take count items) i → count ≤ i → true ≡ same_numbers (map child b) (take count items)
-  same_done A l = agree_done A (omega (arith, l, many))
+pub same_fits : (b xs : List ℕ) → length b ≡ length xs → list_all fits (zip b xs) ≡ same_numbers (map child b) xs
+same_fits b xs e = go (list_all fits (zip b xs)) refl
+  where
+    go : (r : Bool) → list_all fits (zip b xs) ≡ r → r ≡ same_numbers (map child b) xs
+    go true t = sym (numbers_if (map child b) xs (if_fits b xs e t))
+    go false f = sym (numbers_not (map child b) xs (λ q. true≢false (sym (its_own b) ∙ ap (λ (ys : List ℕ). list_all fits (zip b ys)) q ∙ f)))
 
 -- ---- i children exchanged, those of the body b
 pub record Exchanges (ws b items : List ℕ) (count : ℕ) (new : List ℕ) (i : ℕ) : Type 0 where

@@ -9,7 +9,9 @@ use lib.ListN.{length, take, replicate, length-replicate}
 use lib.Seq.{length-take-le}
 use mir.Syntax.{w64}
 use mir.Val.{Fits}
+use Rattle.std.specs.Prelude.{Ok}
 use Rattle.words.specs.Words.{child}
+use Rattle.types.specs.Out.{Out}
 use Rattle.types.specs.Same.{same_numbers}
 use Rattle.types.specs.Node.{Node, node, tag, children, encode, below, well, IsNode}
 use Rattle.types.specs.Arena.{Arena, at}
@@ -24,8 +26,6 @@ use Rattle.types.proofs.Sound.{at_well}
 use Rattle.types.proofs.Addresses.{start_room}
 use Rattle.node_store.specs.Inner.Stored.{InRange, NodeAt}
 use Rattle.node_store.specs.Inner.Added.{Fresh, Interns}
-use Rattle.node_store.specs.declared.added.Interned.{Interned}
-use Rattle.node_store.specs.declared.added.Interned.TheVariants as interned
 use Rattle.node_store.proofs.Additions.{finished}
 use Rattle.recursion.proofs.Interning.{node_is, well_again, intern_there}
 use Rattle.node_store.specs.Inner.Children.{ChildWords}
@@ -65,7 +65,7 @@ module _ {w s : List ℕ} {c : Counters} {n : ℕ} {items : List ℕ} {count : �
     q = p ∙ ap (λ (cs : List ℕ). same_numbers cs (take count items)) D.is
 
     -- with its own children
-    pub unchanged : r ≡ true → Rebuilds w s c n items count w s (interned.Node n c)
+    pub unchanged : r ≡ true → Rebuilds w s c n items count w s (Ok (n, c))
     unfolding reply_of
     unchanged y = record {
       is = λ table a H.
@@ -117,5 +117,5 @@ module _ {w s : List ℕ} {c : Counters} {n : ℕ} {items : List ℕ} {count : �
       pub fresh : Fresh w s c (take (count + 1) new)
       fresh = record { table = B.lent.table; view = B.lent.view; holds = B.lent.holds; node = node (tag (at B.lent.view n)) (take count items); is = is_node B.lent.holds }
 
-      pub rebuilt : {w' s' : List ℕ} {o : Interned} → Interns w s c (take (count + 1) new) w' s' o → Rebuilds w s c n items count w' s' o
+      pub rebuilt : {w' s' : List ℕ} {o : Out (ℕ × Counters)} → Interns w s c (take (count + 1) new) w' s' o → Rebuilds w s c n items count w' s' o
       rebuilt I = record { is = λ table a H. I.is table a (node (tag (at a n)) (take count items)) H (is_node H) }

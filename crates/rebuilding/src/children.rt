@@ -112,12 +112,10 @@ pub fn remaining(
 {
     let body = child_words(node_at(words, starts, c, wide(n)));
     let mut count = 0;
-    let mut i = 0;
-    while i < body.len() {
-        let m = child(body[i]);
+    for word in body {
+        let m = child(*word);
         let dropped = is_dropped(words, starts, c, m, removable, keep);
         count = add_unless(dropped, m, items, count);
-        i += 1;
     }
     count
 }

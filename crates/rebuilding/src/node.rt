@@ -6,25 +6,19 @@ ghost use Rattle.node_filter.specs.Inner.Filter.{CoversLent, CoversAfter};
 ghost use Rattle.rebuilding.specs.Inner.Rebuilt.{with_child, OneEach, Exchanging, Exchanged, Rebuilding, Rebuilds};
 
 use node_filter::intern_filtered;
-use node_store::added::Interned;
 use node_store::children::child_words;
 use node_store::stored::node_at;
-use types::Counters;
 use types::arc_ty::{child, wide};
+use types::{Counters, Refusal};
 
 // Whether the items are the children in the body of a node, of which there are as many.
 fn same_children(body: &[u32], items: &[u32; 65], count: usize) -> bool
     requires { OneEach body.now items.now count }
     ensures { result ≡ same_numbers (map child body.now) (take count items.now) }
 {
-    let mut i = 0;
-    while i < count {
-        if child(body[i]) != items[i] {
-            return false;
-        }
-        i += 1;
-    }
-    true
+    body.iter()
+        .zip(&items[..count])
+        .all(|(word, m)| child(*word) == *m)
 }
 
 // A field word or a child word with another child, which stands in its lowest bits.
@@ -42,11 +36,8 @@ pub fn exchange(node: &[u32], items: &[u32; 65], count: usize, new: &mut [u32; 6
 {
     new[0] = node[0];
     let body = &node[1..];
-    let mut i = 0;
-    while i < count {
-        let at = i + 1;
-        new[at] = with_child(body[i], items[i]);
-        i = at;
+    for i in 0..count {
+        new[i + 1] = with_child(body[i], items[i]);
     }
 }
 
@@ -59,7 +50,7 @@ fn intern_with(
     items: &[u32; 65],
     count: usize,
     filter: &mut [u64; 2048],
-) -> Interned
+) -> Result<(u32, Counters), Refusal>
     requires rebuilding { Rebuilding words.old starts.old c n items.now count }
     requires count_nonzero { 0 < count }
     requires covers_lent { CoversLent words.old starts.old c filter.old }
@@ -84,7 +75,7 @@ pub fn rebuild(
     items: &[u32; 65],
     count: usize,
     filter: &mut [u64; 2048],
-) -> Interned
+) -> Result<(u32, Counters), Refusal>
     requires rebuilding { Rebuilding words.old starts.old c n items.now count }
     requires covers_lent { CoversLent words.old starts.old c filter.old }
     ensures rebuilds { Rebuilds words.old starts.old c n items.now count words.new
@@ -93,7 +84,7 @@ pub fn rebuild(
 {
     let body = child_words(node_at(words, starts, c, wide(n)));
     if same_children(body, items, count) {
-        return Interned::Node(n, c);
+        return Ok((n, c));
     }
     intern_with(words, starts, c, n, items, count, filter)
 }

@@ -6,7 +6,7 @@ use mathlib.Core.Bool.{true}
 use mathlib.Core.List.{List}
 use native.Mathlib.Omega.{arith}
 use lib.ListN.{length, length-append}
-use Rattle.types.specs.Out.{ok}
+use Rattle.std.specs.Prelude.{Ok}
 use Rattle.types.specs.Kind.{body_count}
 use Rattle.types.specs.Node.{Tag, Node, node, tag, children, kind, data_of, names, child_words, body, below, matched, linked, well}
 use Rattle.types.specs.Arena.{Arena, at, find, sound, Ext}
@@ -55,7 +55,7 @@ pub record Interned (table : ℕ) (x : Node) (a : Arena) (m : ℕ) (b : Arena) :
   pub is : At b m x
 
 module _ (words starts table : ℕ) (few : starts ≤ 4096) (x : Node) (a : Arena) (h : sound table a ≡ true) where
-  pub interned : (m : ℕ) (b : Arena) → (length a ≤ 4096 → well table (length a) x ≡ true) → intern words starts x a ≡ ok (m, b) → Interned table x a m b
+  pub interned : (m : ℕ) (b : Arena) → (length a ≤ 4096 → well table (length a) x ≡ true) → intern words starts x a ≡ Ok (m, b) → Interned table x a m b
   interned m b w e =
       let D = done words starts x a m b e in
       let p = done_at D in
@@ -66,5 +66,5 @@ module _ (words starts table : ℕ) (few : starts ≤ 4096) (x : Node) (a : Aren
       go (added p q) = done_sound table h (w (let r = (room_parts words starts x a q).1 in omega arith)) (added p q)
 
 -- what is there is found, and nothing is added
-pub intern_there : (words starts table : ℕ) (x : Node) (a : Arena) → sound table a ≡ true → (m : ℕ) → At a m x → intern words starts x a ≡ ok (m, a)
+pub intern_there : (words starts table : ℕ) (x : Node) (a : Arena) → sound table a ≡ true → (m : ℕ) → At a m x → intern words starts x a ≡ Ok (m, a)
 intern_there words starts table x a h m I = intern_stored words starts x a m (ap (λ (y : Node). find y a) (sym I.is) ∙ at_find table a h m I.inside)

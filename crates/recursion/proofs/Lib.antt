@@ -2,7 +2,6 @@ pub mod Answers
 pub mod Members
 pub mod Interning
 pub mod Steady
-pub mod TakingBack
 pub mod Leading
 pub mod Remembering
 pub mod Turns

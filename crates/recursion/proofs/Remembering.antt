@@ -1,27 +1,22 @@
 -- The cached half of a recursion: an entry answers as the definition does, and a new one is right where it was made.
-use Prim.Native.Nat.{ℕ, zero, suc, ◌+◌, ◌-◌, ◌<◌}
+use Prim.Native.Nat.{ℕ, zero, suc, ◌-◌, ◌<◌}
 use mathlib.Core.Path.{◌≡◌, refl, sym, ap, ◌∙◌, subst}
 use mathlib.Core.List.{List}
 use native.Mathlib.Omega.{arith}
 use native.Mathlib.Decide.{ℕ_discrete}
 use lib.ListN.{length, get_or, set, length-set, replicate, length-replicate}
 use lib.Seq.{get_or-set_same, get_or-set_other}
+use Rattle.std.specs.Prelude.{Ok}
+use Rattle.types.specs.Out.{Out}
 use Rattle.types.specs.Arena.{Arena, here}
 use Rattle.types.specs.declared.Counters.{Counters}
 use Rattle.types.proofs.Addresses.{start_room}
-use Rattle.node_store.specs.declared.added.Interned.{Interned}
-use Rattle.node_store.specs.declared.added.Interned.TheVariants as interned
 use Rattle.recursion.specs.Jobs.{Job}
 use Rattle.recursion.specs.Inner.Cache.{Hit, Cache, CacheRoom, Remembers}
 use Rattle.recursion.specs.Inner.Work.{Recursion, Relation, Leads, done, Ready, Does}
 use Rattle.recursion.proofs.Leading.{Lawful, leads_done}
 
 -- ---- one entry
-pub entry_is : (entries : List ℕ) (n : ℕ) {i : ℕ} → i ≡ n → get_or entries i 0 ≡ get_or entries n 0
-entry_is entries n e = ap (λ (j : ℕ). get_or entries j 0) e
-
-pub entry_written : {entries : List ℕ} {n m i : ℕ} → i ≡ n → Remembers n m entries (set entries i (m + 1))
-entry_written {entries} {n} {m} e = let one : m + 1 ≡ suc m = omega arith in record { is = λ z. set entries (e z) (one z) }
 
 -- an empty cache is right
 pub zero_at : (k n : ℕ) → ◌≡◌ {A = ℕ} (get_or (replicate k 0) n 0) 0
@@ -54,25 +49,25 @@ module _ {F : Recursion} {B : Relation} (L : Lawful F B) {w s : List ℕ} {c : C
   pub ready_small : n < 4096
   ready_small = omega (arith, R.inside, L.few R.beside (omega (arith, start_room R.holds, R.holds.few_starts, R.holds.nodes)))
 
-  pub cached_done : {h : ℕ} → h ≡ get_or entries n 0 → (h ≡ 0 → ⊥) → Does F B w s c n entries w s entries (interned.Node (h - 1) c)
+  pub cached_done : {h : ℕ} → h ≡ get_or entries n 0 → (h ≡ 0 → ⊥) → Does F B w s c n entries w s entries (Ok (h - 1, c))
   cached_done {h} e f = record {
     is = λ table u a H Q l C.
         let z : h ≡ suc (h - 1) = omega (arith, f) in
         let X = C.hit n (h - 1) (sym e ∙ z) in
-        subst (Leads table a (F (length w) (length s) u) (length u) w s entries (interned.Node (h - 1) c)) (sym X.is) (done H here X.low C);
+        subst (Leads table a (F (length w) (length s) u) (length u) w s entries (Ok (h - 1, c))) (sym X.is) (done H here X.low C);
   }
 
-  module _ {w' s' entries' : List ℕ} {r : Interned} (P : Does F B w s c n entries w' s' entries' r) {m : ℕ} {d : Counters} (e : r ≡ interned.Node m d) where
+  module _ {w' s' entries' : List ℕ} {r : Out (ℕ × Counters)} (P : Does F B w s c n entries w' s' entries' r) {m : ℕ} {d : Counters} (e : r ≡ Ok (m, d)) where
     pub remember_room : CacheRoom entries' n m
     remember_room =
         let D = leads_done (P.is R.table R.source R.view R.holds R.beside R.inside R.cache) e in
         record { long = D.cache.long; low = ready_small; small = omega (arith, D.low, D.holds.nodes, start_room D.holds, D.holds.few_starts) }
 
-    pub remembered : {entries'' : List ℕ} → Remembers n m entries' entries'' → Does F B w s c n entries w' s' entries'' (interned.Node m d)
+    pub remembered : {entries'' : List ℕ} → Remembers n m entries' entries'' → Does F B w s c n entries w' s' entries'' (Ok (m, d))
     remembered {entries''} M = record {
       is = λ table u a H Q l C.
           let D = leads_done (P.is table u a H Q l C) e in
           let f = F (length w) (length s) u in
           let x = ((L.steady (length w) (length s) table H.few_starts u a Q H.good n l).is a D.arena m here H.good D.is).again D.arena here D.holds.good in
-          subst (Leads table a f (length u) w' s' entries'' (interned.Node m d)) (sym D.is) (done D.holds D.ext D.low (cache_more D.cache (record { inside = l; is = x; low = D.low }) ready_small M));
+          subst (Leads table a f (length u) w' s' entries'' (Ok (m, d))) (sym D.is) (done D.holds D.ext D.low (cache_more D.cache (record { inside = l; is = x; low = D.low }) ready_small M));
     }

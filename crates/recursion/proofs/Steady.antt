@@ -10,7 +10,9 @@ use native.Mathlib.Omega.{arith}
 use lib.ListN.{length, get_or}
 use lib.Dec.{eqb}
 use borrow.Author.Tests.{eqb-true, eqb-false, lt-ltb}
-use Rattle.types.specs.Out.{Out, ok, refuse, ◌>>=◌}
+use Rattle.std.specs.Prelude.{Ok, Err}
+use Rattle.types.specs.declared.refusal.Refusal.{Refusal}
+use Rattle.types.specs.Out.{Out, ◌>>=◌}
 use Rattle.types.specs.Node.{Node, node, tag, children, below, well}
 use Rattle.types.specs.Arena.{Arena, rec, sound, Ext, here, more}
 use Rattle.types.proofs.Lists.{below_more}
@@ -20,7 +22,7 @@ use Rattle.node_store.specs.Intern.{intern}
 use Rattle.recursion.specs.Jobs.{Job, each, rebuild}
 use Rattle.recursion.specs.Theorems.{Finished, Steady, There, RecSteady, InternSteady, ThenSteady, EachSteady, RebuildSteady}
 use Rattle.recursion.proofs.Members.{index_of}
-use Rattle.recursion.proofs.Answers.{ok_refuse, ok_same, bind_parts, bind_ok}
+use Rattle.recursion.proofs.Answers.{ok_err, ok_same, bind_parts, bind_ok}
 use Rattle.recursion.proofs.Interning.{node_is, at_later, well_again, interned, intern_there}
 
 -- every arena grew from the empty one
@@ -41,13 +43,13 @@ module _ {A : Type 0} {table : ℕ} {fits : A → Arena → Type 0} where
   }
 
   -- a refusal
-  pub refusal_steady : {start : Arena} (n : ℕ) → Steady table start fits (λ (a : Arena). refuse n)
-  refusal_steady n = record { is = λ a b x e g q. absurd (ok_refuse q) }
+  pub refusal_steady : {start : Arena} (n : Refusal) → Steady table start fits (λ (a : Arena). Err n)
+  refusal_steady n = record { is = λ a b x e g q. absurd (ok_err q) }
 
   -- an answer that needs no work
-  pub answer_steady : (start : Arena) (x : A) → ((a : Arena) → Ext start a → fits x a) → Steady table start fits (λ (a : Arena). ok (x, a))
+  pub answer_steady : (start : Arena) (x : A) → ((a : Arena) → Ext start a → fits x a) → Steady table start fits (λ (a : Arena). Ok (x, a))
   answer_steady start x h = record {
-    is = λ a b y e g q. subst (λ (v : A × Arena). Finished table fits (λ (d : Arena). ok (x, d)) a v.0 v.1) (ok_same q) (record { ext = here; good = g; inside = h a e; again = λ d f k. refl });
+    is = λ a b y e g q. subst (λ (v : A × Arena). Finished table fits (λ (d : Arena). Ok (x, d)) a v.0 v.1) (ok_same q) (record { ext = here; good = g; inside = h a e; again = λ d f k. refl });
   }
 
 -- one job after another
@@ -69,8 +71,8 @@ pub each_steady : EachSteady
 unfolding each below
 each_steady table f [] start h = answer_steady start [] (λ a e. record { count = refl; low = refl })
 each_steady table f (c ∷ cs) start h =
-    then_steady (f c) (λ (m : ℕ) (a : Arena). each f cs a >>= λ (q : List ℕ × Arena). ok (m ∷ q.0, q.1)) (h c (head refl))
-    (λ m a e g l. then_steady (each f cs) (λ (ms : List ℕ) (b : Arena). ok (m ∷ ms, b)) (each_steady table f cs a (λ d i. steady_later e (h d (tail i))))
+    then_steady (f c) (λ (m : ℕ) (a : Arena). each f cs a >>= λ (q : List ℕ × Arena). Ok (m ∷ q.0, q.1)) (h c (head refl))
+    (λ m a e g l. then_steady (each f cs) (λ (ms : List ℕ) (b : Arena). Ok (m ∷ ms, b)) (each_steady table f cs a (λ d i. steady_later e (h d (tail i))))
     (λ ms b x k I. answer_steady b (m ∷ ms)
     (λ d y. record { count = ap suc I.count; low = low m ms a b d l x y I.low })))
   where

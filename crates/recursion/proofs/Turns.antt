@@ -7,19 +7,18 @@ use native.Mathlib.Omega.{arith}
 use lib.ListN.{length, get_or, take, drop, set, length-set, length-append, drop_of_length-le}
 use lib.Seq.{drop-cons, get_or-take, take-set-lt, length-take-le, get_or_at, set_at}
 use borrow.Author.Tests.{lt-ltb}
-use Rattle.types.specs.Out.{Out, ok, refuse, ◌>>=◌}
+use Rattle.std.specs.Prelude.{Ok, Err}
+use Rattle.types.specs.declared.refusal.Refusal.{Refusal}
+use Rattle.types.specs.Out.{Out, ◌>>=◌}
 use Rattle.types.specs.Node.{below}
 use Rattle.types.specs.Arena.{Arena, Ext, here}
 use Rattle.types.specs.Memory.{Holds}
 use Rattle.types.specs.declared.Counters.{Counters}
 use Rattle.types.proofs.Growth.{ext_length, ext_trans}
 use Rattle.types.proofs.Lists.{below_at, below_more, below_cons}
-use Rattle.node_store.specs.declared.added.Interned.{Interned}
-use Rattle.node_store.specs.declared.added.Interned.TheVariants as interned
 use Rattle.recursion.specs.Jobs.{Job, each}
 use Rattle.recursion.specs.Inner.Cache.{Cache}
 use Rattle.recursion.specs.Inner.Work.{Recursion, Relation, Leads, Ready, Does, EachReady, LeadsEach, went, stop, DoesEach}
-use Rattle.recursion.specs.declared.Run.TheVariants as run
 use Rattle.recursion.proofs.Leading.{Lawful, stands_ext, leads_done, leads_stop}
 
 pub below_snoc : (n : ℕ) (cs : List ℕ) (m : ℕ) → below n cs ≡ true → m < n → below n (cs ++ (m ∷ [])) ≡ true
@@ -29,17 +28,17 @@ below_snoc n (c ∷ cs) m e l = let p = below_cons n c cs e in rw (lt-ltb c n p.
 
 -- what is still to come, after the items done
 abbrev pub after : List ℕ → Out (List ℕ × Arena) → Out (List ℕ × Arena)
-after ms o = o >>= λ (q : List ℕ × Arena). ok (ms ++ q.0, q.1)
+after ms o = o >>= λ (q : List ℕ × Arena). Ok (ms ++ q.0, q.1)
 
 pub after_none : (o : Out (List ℕ × Arena)) → o ≡ after [] o
 unfolding ◌>>=◌
-after_none (ok q) = refl
-after_none (refuse e) = refl
+after_none (Ok q) = refl
+after_none (Err e) = refl
 
-pub after_more : (ms : List ℕ) (m : ℕ) (o : Out (List ℕ × Arena)) → after ms (o >>= λ (q : List ℕ × Arena). ok (m ∷ q.0, q.1)) ≡ after (ms ++ (m ∷ [])) o
+pub after_more : (ms : List ℕ) (m : ℕ) (o : Out (List ℕ × Arena)) → after ms (o >>= λ (q : List ℕ × Arena). Ok (m ∷ q.0, q.1)) ≡ after (ms ++ (m ∷ [])) o
 unfolding ◌>>=◌
-after_more ms m (ok q) = ap (λ (l : List ℕ). ok (l, q.1)) (sym (append_assoc ms (m ∷ []) q.0))
-after_more ms m (refuse e) = refl
+after_more ms m (Ok q) = ap (λ (l : List ℕ). Ok (l, q.1)) (sym (append_assoc ms (m ∷ []) q.0))
+after_more ms m (Err e) = refl
 
 -- what is known of the turn i in one arena
 pub record TurnIn (table : ℕ) (a : Arena) (f : ℕ → Job) (size : ℕ) (cs w s entries items : List ℕ) (count : ℕ) (last : Counters) (i : ℕ) : Type 0 where
@@ -135,7 +134,7 @@ module _ {F : Recursion} {B : Relation} {w₀ s₀ : List ℕ} {c₀ : Counters}
             cache = moved now.cache;
           }
 
-      module _ (L : Lawful F B) {w' s' entries' : List ℕ} {r : Interned} (D : Does F B w s last x entries w' s' entries' r) where
+      module _ (L : Lawful F B) {w' s' entries' : List ℕ} {r : Out (ℕ × Counters)} (D : Does F B w s last x entries w' s' entries' r) where
         module _ {table : ℕ} {u a : Arena} (H : Holds table w₀ s₀ c₀ a) (Q : B table u a) (l : n < length u) (C : Cache (F (length w₀) (length s₀) u) (length u) a entries₀) where
           f : ℕ → Job
           f = F (length w₀) (length s₀) u
@@ -152,22 +151,22 @@ module _ {F : Recursion} {B : Relation} {w₀ s₀ : List ℕ} {c₀ : Counters}
               subst (λ (k : ℕ → Job). Leads table I.arena k (length u) w' s' entries' r (k x I.arena)) p
               (D.is table u I.arena I.holds (L.later Q I.ext) (omega (arith, lower, l)) (moved I.cache))
 
-          next : each f cs a ≡ after I.before (f x I.arena >>= λ (q : ℕ × Arena). each f (drop (suc i) cs) q.1 >>= λ (z : List ℕ × Arena). ok (q.0 ∷ z.0, z.1))
+          next : each f cs a ≡ after I.before (f x I.arena >>= λ (q : ℕ × Arena). each f (drop (suc i) cs) q.1 >>= λ (z : List ℕ × Arena). Ok (q.0 ∷ z.0, z.1))
           unfolding each
           next =
               let k : i < length cs = omega (arith, h, count_cs) in
               I.same ∙ ap (λ (y : List ℕ). after I.before (each f y I.arena)) (drop-cons cs i 0 k ∙ ap (λ (y : ℕ). y ∷ drop (suc i) cs) (sym (item_is I)))
 
-        pub turn_refused : {v : ℕ} → r ≡ interned.Refused v → DoesEach F B w₀ s₀ c₀ n items₀ count entries₀ w' s' items entries' (run.Refused v)
+        pub turn_refused : {v : Refusal} → r ≡ Err v → DoesEach F B w₀ s₀ c₀ n items₀ count entries₀ w' s' items entries' (Err v)
         unfolding ◌>>=◌ cs f
         turn_refused {v} q = record {
           is = λ table u a H Q l C.
               let S = leads_stop (led H Q l C) q in
-              let o : each (f H Q l C) cs a ≡ refuse v = next H Q l C ∙ ap (λ (z : Out (ℕ × Arena)). after (I H Q l C).before (z >>= λ (y : ℕ × Arena). each (f H Q l C) (drop (suc i) cs) y.1 >>= λ (v : List ℕ × Arena). ok (y.0 ∷ v.0, v.1))) S.is in
-              subst (LeadsEach table a (F (length w₀) (length s₀) u) (length u) w' s' entries' items count (run.Refused v)) (sym o) (stop (stands_ext (I H Q l C).ext S.stands));
+              let o : each (f H Q l C) cs a ≡ Err v = next H Q l C ∙ ap (λ (z : Out (ℕ × Arena)). after (I H Q l C).before (z >>= λ (y : ℕ × Arena). each (f H Q l C) (drop (suc i) cs) y.1 >>= λ (v : List ℕ × Arena). Ok (y.0 ∷ v.0, v.1))) S.is in
+              subst (LeadsEach table a (F (length w₀) (length s₀) u) (length u) w' s' entries' items count (Err v)) (sym o) (stop (stands_ext (I H Q l C).ext S.stands));
         }
 
-        pub turn_more : {m : ℕ} {d : Counters} → r ≡ interned.Node m d → length w' ≡ length w → length s' ≡ length s → Turn F B w₀ s₀ c₀ n items₀ count entries₀ w' s' (set items i m) entries' d (i + 1)
+        pub turn_more : {m : ℕ} {d : Counters} → r ≡ Ok (m, d) → length w' ≡ length w → length s' ≡ length s → Turn F B w₀ s₀ c₀ n items₀ count entries₀ w' s' (set items i m) entries' d (i + 1)
         unfolding ◌>>=◌ cs f
         turn_more {m} {d} q lw ls = record {
           ready = T.ready;
@@ -193,20 +192,20 @@ module _ {F : Recursion} {B : Relation} {w₀ s₀ : List ℕ} {c₀ : Counters}
                     ∙ sym (append_assoc J.before (m ∷ []) (drop (suc i) cs)) ∙ ap (λ (y : ℕ). (J.before ++ (m ∷ [])) ++ drop y cs) one;
                 low = below_snoc (length S.arena) J.before m (below_more (length J.arena) (length S.arena) J.before (ext_length J.arena S.arena S.ext) J.low) S.low;
                 same = next H Q l C
-                    ∙ ap (λ (z : Out (ℕ × Arena)). after J.before (z >>= λ (y : ℕ × Arena). each (f H Q l C) (drop (suc i) cs) y.1 >>= λ (v : List ℕ × Arena). ok (y.0 ∷ v.0, v.1))) S.is
+                    ∙ ap (λ (z : Out (ℕ × Arena)). after J.before (z >>= λ (y : ℕ × Arena). each (f H Q l C) (drop (suc i) cs) y.1 >>= λ (v : List ℕ × Arena). Ok (y.0 ∷ v.0, v.1))) S.is
                     ∙ after_more J.before m (each (f H Q l C) (drop (suc i) cs) S.arena) ∙ ap (λ (y : ℕ). after (J.before ++ (m ∷ [])) (each (f H Q l C) (drop y cs) S.arena)) one;
               };
         }
 
-    pub turn_done : count ≤ i → DoesEach F B w₀ s₀ c₀ n items₀ count entries₀ w s items entries (run.Went last)
+    pub turn_done : count ≤ i → DoesEach F B w₀ s₀ c₀ n items₀ count entries₀ w s items entries (Ok last)
     unfolding ◌>>=◌ each cs
     turn_done h = record {
       is = λ table u a H Q l C.
           let J = T.there table u a H Q l C in
           let g : ℕ → Job = F (length w₀) (length s₀) u in
           let none : drop i cs ≡ [] = drop_of_length-le cs {i = i} (omega (arith, h, count_cs)) in
-          let o : each g cs a ≡ ok (J.before, J.arena) =
-          J.same ∙ ap (λ (y : List ℕ). after J.before (each g y J.arena)) none ∙ ap (λ (y : List ℕ). ok (y, J.arena)) (append-nil J.before) in
-          subst (LeadsEach table a g (length u) w s entries items count (run.Went last)) (sym o)
+          let o : each g cs a ≡ Ok (J.before, J.arena) =
+          J.same ∙ ap (λ (y : List ℕ). after J.before (each g y J.arena)) none ∙ ap (λ (y : List ℕ). Ok (y, J.arena)) (append-nil J.before) in
+          subst (LeadsEach table a g (length u) w s entries items count (Ok last)) (sym o)
           (went J.holds J.ext J.cache T.long (J.words ∙ ap (λ (y : List ℕ). J.before ++ y) none ∙ append-nil J.before) (omega (arith, J.place, T.turn, h)) J.low);
     }

@@ -1,8 +1,8 @@
 -- The cache law (01, "Forms of the Rust that can't be kept": the caches): what was answered once is answered again in every later sound
 -- arena, and nothing is added then. A statement with parameters holds for all of them.
-use Rattle.std.specs.Prelude.{ℕ, ◌<◌, ◌≤◌, ◌≡◌, true, length}
+use Rattle.std.specs.Prelude.{ℕ, ◌<◌, ◌≤◌, ◌≡◌, true, length, Ok}
 use mathlib.Core.List.{List, ◌∷◌, Memᴰ as Mem}
-use Rattle.types.specs.Out.{Out, ok, ◌>>=◌}
+use Rattle.types.specs.Out.{Out, ◌>>=◌}
 use Rattle.types.specs.Node.{Tag, Node, node, below, well}
 use Rattle.types.specs.Arena.{Arena, rec, sound, Ext}
 use Rattle.node_store.specs.Intern.{intern}
@@ -14,11 +14,11 @@ pub record Finished {A : Type 0} (table : ℕ) (fits : A → Arena → Type 0) (
   pub ext : Ext a b
   pub good : sound table b ≡ true
   pub inside : fits x b
-  pub again : (d : Arena) → Ext b d → sound table d ≡ true → j d ≡ ok (x, d)
+  pub again : (d : Arena) → Ext b d → sound table d ≡ true → j d ≡ Ok (x, d)
 
 -- a job that is finished so whenever it finishes, in any sound arena that grew from `start`
 pub record Steady {A : Type 0} (table : ℕ) (start : Arena) (fits : A → Arena → Type 0) (j : Arena → Out (A × Arena)) : Type 0 where
-  pub is : (a b : Arena) (x : A) → Ext start a → sound table a ≡ true → j a ≡ ok (x, b) → Finished table fits j a x b
+  pub is : (a b : Arena) (x : A) → Ext start a → sound table a ≡ true → j a ≡ Ok (x, b) → Finished table fits j a x b
 
 -- a node's number that is there
 abbrev pub There : ℕ → Arena → Type 0

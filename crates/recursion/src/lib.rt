@@ -3,30 +3,10 @@
 
 ghost use Rattle.std.specs.Prelude.{◌≡◌, ◌<◌, get_or};
 ghost use Rattle.recursion.specs.Inner.Cache.{CacheRoom, Remembers};
-ghost use Rattle.types.specs.Out.{number};
-ghost use Rattle.recursion.specs.Inner.Work.{run_out, TakesBack, TakesBackNodes};
+ghost use Rattle.recursion.specs.Inner.Work.{TakesBack, TakesBackNodes};
 
 use types::Counters;
 use types::arc_ty::wide;
-
-// Whether several nodes were worked on, with the counters after, or the number of a refusal.
-#[derive(Clone, Copy)]
-pub enum Run {
-    Went(Counters),
-    Refused(u32),
-}
-
-impl Run {
-    // The number of a refusal, for an answer of another type.
-    pub fn refusal(self) -> u32
-        ensures { result ≡ number (run_out self) }
-    {
-        match self {
-            Run::Went(_) => 0,
-            Run::Refused(number) => number,
-        }
-    }
-}
 
 // What is known of node n: 0 for nothing yet, else what it becomes and one.
 pub fn cached(cache: &[u32; 4096], n: u32) -> u32
@@ -56,10 +36,8 @@ pub fn item_at(items: &[u32; 65], i: usize) -> u32
 pub fn take_back(words: &mut [u32], from: usize)
     ensures { TakesBack words.old from words.new }
 {
-    let mut i = from;
-    while i < words.len() {
-        words[i] = 0;
-        i += 1;
+    if from < words.len() {
+        words[from..].fill(0);
     }
 }
 

@@ -8,7 +8,8 @@ use lib.ListN.{length, take, replicate}
 use lib.Seq.{take_at, length-take-le}
 use lib.Dec.{eqb}
 use borrow.Author.Tests.{eqb-true, eq-eqb}
-use Rattle.types.specs.Out.{ok}
+use Rattle.std.specs.Prelude.{Ok}
+use Rattle.types.specs.Out.{Out}
 use Rattle.types.specs.Node.{var, tag, kind}
 use Rattle.types.specs.Kind.{disc}
 use Rattle.types.specs.Arena.{Arena, at, here}
@@ -20,8 +21,6 @@ use Rattle.types.proofs.Addresses.{start_room}
 use Rattle.node_store.specs.Inner.Stored.{InRange}
 use Rattle.node_store.specs.Intern.{intern}
 use Rattle.node_store.specs.Inner.Added.{Interns}
-use Rattle.node_store.specs.declared.added.Interned.{Interned}
-use Rattle.node_store.specs.declared.added.Interned.TheVariants as interned
 use Rattle.walks.specs.Inner.Asked.{Says}
 use Rattle.node_reading.specs.Inner.{KindAt}
 use Rattle.recursion.specs.Inner.Work.{Leads, Ready, Does}
@@ -83,7 +82,7 @@ module _ {w s : List ℕ} {c : Counters} {root : ℕ} (P : InRange w s c root) {
         cache = cache_none;
       }
 
-  none_left : (vs : List ℕ) (a : Arena) → length vs ≡ 0 → by_vars (length w) (length s) root vs a ≡ ok (root, a)
+  none_left : (vs : List ℕ) (a : Arena) → length vs ≡ 0 → by_vars (length w) (length s) root vs a ≡ Ok (root, a)
   unfolding by_vars
   none_left [] a e = refl
   none_left (v ∷ vs) a e = absurd (omega arith)
@@ -94,13 +93,13 @@ module _ {w s : List ℕ} {c : Counters} {root : ℕ} (P : InRange w s c root) {
   some_left (v ∷ vs) a f = refl
 
   -- a type without variables
-  pub vars_none : count ≡ 0 → Works normalize_vars w s c root w s (interned.Node root c)
+  pub vars_none : count ≡ 0 → Works normalize_vars w s c root w s (Ok (root, c))
   unfolding normalize_vars
   vars_none e = record {
-    is = λ table a H. subst (LeadsOnce table a w s (interned.Node root c)) (sym (none_left (free_type_vars a root) a (sym (count_is H) ∙ e))) (done H here (inside H));
+    is = λ table a H. subst (LeadsOnce table a w s (Ok (root, c))) (sym (none_left (free_type_vars a root) a (sym (count_is H) ∙ e))) (done H here (inside H));
   }
 
-  pub vars_done : (count ≡ 0 → ⊥) → {w' s' entries : List ℕ} {r : Interned} → Does (renumbered (take count array)) (Numbered (take count array)) w s c root (replicate 4096 0) w' s' entries r → Works normalize_vars w s c root w' s' r
+  pub vars_done : (count ≡ 0 → ⊥) → {w' s' entries : List ℕ} {r : Out (ℕ × Counters)} → Does (renumbered (take count array)) (Numbered (take count array)) w s c root (replicate 4096 0) w' s' entries r → Works normalize_vars w s c root w' s' r
   unfolding normalize_vars
   vars_done f {w'} {s'} {entries} {r} D = record {
     is = λ table a H.
@@ -126,7 +125,7 @@ module _ {w s : List ℕ} {c : Counters} {root x k : ℕ} (e : x ≡ root) (K : 
   kind_is : {table : ℕ} {a : Arena} → Holds table w s c a → k ≡ disc (kind (tag (at a root)))
   kind_is {table} {a} H = K.is table a H ∙ ap (λ (i : ℕ). disc (kind (tag (at a i)))) e
 
-  pub unknown_done : (u : Bool) → (u && eqb k 3) ≡ true → {ws w' s' : List ℕ} {r : Interned} → VarWords unknown ws → Interns w s c ws w' s' r → length w' ≡ length w → length s' ≡ length s → Works (normalize u) w s c root w' s' r
+  pub unknown_done : (u : Bool) → (u && eqb k 3) ≡ true → {ws w' s' : List ℕ} {r : Out (ℕ × Counters)} → VarWords unknown ws → Interns w s c ws w' s' r → length w' ≡ length w → length s' ≡ length s → Works (normalize u) w s c root w' s' r
   unknown_done u q {w' = w'} {s'} {r} X I lw ls = record {
     is = λ table a H.
         let b = and_true u (eqb k 3) q in
@@ -141,7 +140,7 @@ module _ {w s : List ℕ} {c : Counters} {root x k : ℕ} (e : x ≡ root) (K : 
         (I.is table a (var_node unknown) H (X.is table (length a))));
   }
 
-  pub known_done : (u : Bool) → (u && eqb k 3) ≡ false → {w' s' : List ℕ} {r : Interned} → Works normalize_vars w s c root w' s' r → Works (normalize u) w s c root w' s' r
+  pub known_done : (u : Bool) → (u && eqb k 3) ≡ false → {w' s' : List ℕ} {r : Out (ℕ × Counters)} → Works normalize_vars w s c root w' s' r → Works (normalize u) w s c root w' s' r
   known_done u q {w'} {s'} {r} N = record {
     is = λ table a H. subst (LeadsOnce table a w' s' r) (sym (known_type (length w) (length s) root a u (λ z t. true_false (sym (ap (λ (b : Bool). b && eqb k 3) z ∙ eq-eqb k 3 (kind_is H ∙ t)) ∙ q)))) (N.is table a H);
   }

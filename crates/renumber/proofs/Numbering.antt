@@ -10,7 +10,8 @@ use native.Mathlib.Decide.{ℕ_discrete}
 use lib.ListN.{length, length-append}
 use lib.Dec.{eqb}
 use borrow.Author.Tests.{eq-eqb}
-use Rattle.types.specs.Out.{Out, ok}
+use Rattle.std.specs.Prelude.{Ok}
+use Rattle.types.specs.Out.{Out}
 use Rattle.types.specs.Node.{tag}
 use Rattle.types.specs.Arena.{Arena, at, here}
 use Rattle.types.specs.Memory.{Holds}
@@ -125,25 +126,25 @@ module _ (table : ℕ) (w s : List ℕ) (c : Counters) (a : Arena) (H : Holds ta
   short : length (free_type_vars a root) ≤ 4096
   short = omega (arith, listed_few table a H.good root l, start_room H, H.few_starts, H.nodes)
 
-  by_list : (vars : List ℕ) → free_type_vars a root ≡ vars → (m : ℕ) (b : Arena) → by_vars (length w) (length s) root vars a ≡ ok (m, b) → free_type_vars b m ≡ numbers_below (length vars)
+  by_list : (vars : List ℕ) → free_type_vars a root ≡ vars → (m : ℕ) (b : Arena) → by_vars (length w) (length s) root vars a ≡ Ok (m, b) → free_type_vars b m ≡ numbers_below (length vars)
   unfolding by_vars numbers_below
   by_list [] q m b e = subst (λ (v : ℕ × Arena). free_type_vars v.1 v.0 ≡ []) (ok_same e) q
   by_list (v ∷ vs) q m b e =
       let r = renumbered_occurrences (v ∷ vs) (length w) (length s) table H.few_starts (subst (λ (k : List ℕ). length k ≤ 4096) q short) a H.good root l a b m here H.good e in
       listed (v ∷ vs) a root q b m r
 
-  normalized : (m : ℕ) (b : Arena) → normalize_vars (length w) (length s) root a ≡ ok (m, b) → free_type_vars b m ≡ numbers_below (length (free_type_vars a root))
+  normalized : (m : ℕ) (b : Arena) → normalize_vars (length w) (length s) root a ≡ Ok (m, b) → free_type_vars b m ≡ numbers_below (length (free_type_vars a root))
   unfolding normalize_vars
   normalized = by_list (free_type_vars a root) refl
 
   -- the unknown variable alone
-  unknown_alone : (m : ℕ) (b : Arena) → intern (length w) (length s) (var_node unknown) a ≡ ok (m, b) → free_type_vars b m ≡ unknown ∷ []
+  unknown_alone : (m : ℕ) (b : Arena) → intern (length w) (length s) (var_node unknown) a ≡ Ok (m, b) → free_type_vars b m ≡ unknown ∷ []
   unfolding free_type_vars add_all add_new contains
   unknown_alone m b e =
       let J = interned (length w) (length s) table H.few_starts (var_node unknown) a H.good m b (λ k. var_well table (length a) unknown (omega arith)) e in
       ap (add_all []) (at_var table b J.good unknown (record { node = m; low = J.is.inside; is = ap tag J.is.is }))
 
-  replacing : (o : Option ℕ) (m : ℕ) (b : Arena) → ◌≡◌ {A = Out (ℕ × Arena)} (elim o as (λ _. Out (ℕ × Arena)) [ none ↦ normalize_vars (length w) (length s) root a | some v ↦ intern (length w) (length s) (var_node unknown) a ]) (ok (m, b)) → free_type_vars b m ≡ replaced o (length (free_type_vars a root))
+  replacing : (o : Option ℕ) (m : ℕ) (b : Arena) → ◌≡◌ {A = Out (ℕ × Arena)} (elim o as (λ _. Out (ℕ × Arena)) [ none ↦ normalize_vars (length w) (length s) root a | some v ↦ intern (length w) (length s) (var_node unknown) a ]) (Ok (m, b)) → free_type_vars b m ≡ replaced o (length (free_type_vars a root))
   unfolding replaced
   replacing none = normalized
   replacing (some v) = unknown_alone

@@ -1,9 +1,8 @@
 -- `normalize_vars` and `normalize_replacing_unknown` (01, "arena"): the variables of a type numbered in the order of a first visit.
-use Rattle.std.specs.Prelude.{ℕ, Bool, true, false}
+use Rattle.std.specs.Prelude.{ℕ, Bool, true, false, Ok}
 use mathlib.Core.List.{List, [], ◌∷◌}
 use Rattle.std.proofs.Math.Option.{none, some}
 use Rattle.types.specs.Tyvar.{unknown}
-use Rattle.types.specs.Out.{ok}
 use Rattle.types.specs.Node.{tag}
 use Rattle.types.specs.Arena.{at}
 use Rattle.node_store.specs.Intern.{intern}
@@ -15,7 +14,7 @@ module _ (words starts root : ℕ) where
   -- the type of the root, whose variables are these: without any it stays as it is
   unfoldable pub by_vars : List ℕ → Job
   unfolding renumbered
-  by_vars [] a = ok (root, a)
+  by_vars [] a = Ok (root, a)
   by_vars (v ∷ vs) a = renumbered (v ∷ vs) words starts a root a
 
   -- the Rust's `normalize_vars`

@@ -1,7 +1,6 @@
 -- What is shown of `normalize_vars` and `normalize_replacing_unknown` beyond their contracts.
-use Rattle.std.specs.Prelude.{ℕ, zero, suc, ◌<◌, ◌≡◌, true, false, List, [], ◌∷◌, ◌++◌, length}
+use Rattle.std.specs.Prelude.{ℕ, zero, suc, ◌<◌, ◌≡◌, true, false, List, [], ◌∷◌, ◌++◌, length, Ok}
 use Rattle.std.proofs.Math.Option.{Option, none, some}
-use Rattle.types.specs.Out.{ok}
 use Rattle.types.specs.Node.{tag}
 use Rattle.types.specs.Arena.{Arena, at}
 use Rattle.types.specs.Memory.{Holds}
@@ -25,9 +24,9 @@ replaced none n = numbers_below n
 -- the variables of a finished call's type are 0, 1, .. in the order of a first visit, as many as the given type has; but a root that is a
 -- variable becomes the unknown one in `normalize_replacing_unknown` (01, "arena")
 pub record VarsInOrder (words starts : ℕ) (a : Arena) (root : ℕ) : Type 0 where
-  pub normalized : (m : ℕ) (b : Arena) → normalize false words starts root a ≡ ok (m, b)
+  pub normalized : (m : ℕ) (b : Arena) → normalize false words starts root a ≡ Ok (m, b)
       → free_type_vars b m ≡ numbers_below (length (free_type_vars a root))
-  pub replacing : (m : ℕ) (b : Arena) → normalize true words starts root a ≡ ok (m, b)
+  pub replacing : (m : ℕ) (b : Arena) → normalize true words starts root a ≡ Ok (m, b)
       → free_type_vars b m ≡ replaced (var_number (tag (at a root))) (length (free_type_vars a root))
 
 -- so it is of every root in every arena that lent memory holds

@@ -11,23 +11,28 @@ ghost use Rattle.renumber.specs.Renumber.{normalize_vars, normalize};
 use free_vars::list_vars;
 use node_filter::set_all_bits;
 use node_reading::nodes::kind_at;
-use node_store::added::{Interned, intern_node};
+use node_store::added::intern_node;
 use recursion::take_back_nodes;
 use renumbering::nodes::renumber_node;
 use renumbering::vars::var_words;
-use soundness::{Judged, judge};
-use types::Counters;
+use soundness::judge;
 use types::arc_ty::{Head, UNKNOWN_TYVAR, wide};
+use types::{Counters, Refusal};
 
 // `normalize_vars` in an arena that is known to be sound and has the root. A refusal leaves the nodes that were added.
-fn normalize_vars_in(words: &mut [u32], starts: &mut [u32], c: Counters, root: u32) -> Interned
+fn normalize_vars_in(
+    words: &mut [u32],
+    starts: &mut [u32],
+    c: Counters,
+    root: u32,
+) -> Result<(u32, Counters), Refusal>
     requires { InRange words.old starts.old c root }
     ensures { Works normalize_vars words.old starts.old c root words.new starts.new result }
 {
     let mut vars = [0u32; 4096];
     let count = list_vars(words, starts, c, root, &mut vars);
     if count == 0 {
-        return Interned::Node(root, c);
+        return Ok((root, c));
     }
     let mut cache = [0u32; 4096];
     let mut filter = [0u64; 2048];
@@ -50,7 +55,7 @@ fn normalize_in(
     c: Counters,
     root: u32,
     unknown: bool,
-) -> Interned
+) -> Result<(u32, Counters), Refusal>
     requires { InRange words.old starts.old c root }
     ensures { Works (normalize unknown) words.old starts.old c root words.new
         starts.new result }
@@ -69,20 +74,20 @@ fn normalize_lent(
     c: Counters,
     root: u32,
     unknown: bool,
-) -> Interned
+) -> Result<(u32, Counters), Refusal>
     requires { Lent words.old starts.old c }
     ensures { WorksLent (normalize unknown) words.old starts.old c root words.new
         starts.new result }
 {
     if wide(root) >= c.nodes {
-        return Interned::Refused(6);
+        return Err(Refusal::NoSuchRoot);
     }
     let r = normalize_in(words, starts, c, root, unknown);
-    let Interned::Refused(number) = r else {
+    let Err(refusal) = r else {
         return r;
     };
     take_back_nodes(words, starts, c);
-    Interned::Refused(number)
+    Err(refusal)
 }
 
 // The same in any memory.
@@ -93,15 +98,12 @@ fn normalize_any(
     c: Counters,
     root: u32,
     unknown: bool,
-) -> Interned
+) -> Result<(u32, Counters), Refusal>
     ensures { left c result words.new starts.new
         ≡ work_reply (normalize unknown) table.now words.old starts.old c root }
 {
-    let lent = judge(table, words, starts, c);
-    let Judged::Refused(number) = lent else {
-        return normalize_lent(words, starts, c, root, unknown);
-    };
-    Interned::Refused(number)
+    judge(table, words, starts, c)?;
+    normalize_lent(words, starts, c, root, unknown)
 }
 
 // The type of the root with its variables numbered from 0 in the order of a first visit.
@@ -111,7 +113,7 @@ pub fn normalize_vars(
     starts: &mut [u32],
     c: Counters,
     root: u32,
-) -> Interned
+) -> Result<(u32, Counters), Refusal>
     ensures { left c result words.new starts.new
         ≡ work_reply (normalize false) table.now words.old starts.old c root }
 {
@@ -125,7 +127,7 @@ pub fn normalize_replacing_unknown(
     starts: &mut [u32],
     c: Counters,
     root: u32,
-) -> Interned
+) -> Result<(u32, Counters), Refusal>
     ensures { left c result words.new starts.new
         ≡ work_reply (normalize true) table.now words.old starts.old c root }
 {

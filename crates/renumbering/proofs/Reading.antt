@@ -8,7 +8,7 @@ use mathlib.Core.List.{List, [], ◌∷◌, ◌++◌, map, flatten, map-append, 
 use native.Mathlib.Omega.{arith}
 use native.Mathlib.Decide.{ℕ_discrete}
 use lib.ListN.{length}
-use Rattle.types.specs.Out.{ok}
+use Rattle.std.specs.Prelude.{Ok}
 use Rattle.types.specs.Kind.{disc}
 use Rattle.types.specs.Node.{Node, node, tag, kind, children, well}
 use Rattle.types.specs.Arena.{Arena, at, sound, Ext}
@@ -36,12 +36,12 @@ grown {a} {b} e n l = ext_fold node_vars a b e n l
 
 module _ (vars : List ℕ) (words starts table : ℕ) (few : starts ≤ 4096) (short : length vars ≤ 4096) (u : Arena) (g : sound table u ≡ true) where
   abbrev Reads : ℕ → Type 0
-  Reads c = (a b : Arena) (m : ℕ) → Ext u a → sound table a ≡ true → renumbered vars words starts u c a ≡ ok (m, b) → occurrences b m ≡ map (index vars) (occurrences u c)
+  Reads c = (a b : Arena) (m : ℕ) → Ext u a → sound table a ≡ true → renumbered vars words starts u c a ≡ Ok (m, b) → occurrences b m ≡ map (index vars) (occurrences u c)
 
   each_finished : (cs : List ℕ) → ((c : ℕ) → Mem c cs → c < length u) → Steady table u (AllThere (length cs)) (each (renumbered vars words starts u) cs)
   each_finished cs low = each_steady table (renumbered vars words starts u) cs u (λ c i. renumbered_steady vars words starts table few short u g c (low c i))
 
-  each_reads : (cs : List ℕ) → ((c : ℕ) → Mem c cs → c < length u) → ((c : ℕ) → Mem c cs → Reads c) → (a b : Arena) (ms : List ℕ) → Ext u a → sound table a ≡ true → each (renumbered vars words starts u) cs a ≡ ok (ms, b)
+  each_reads : (cs : List ℕ) → ((c : ℕ) → Mem c cs → c < length u) → ((c : ℕ) → Mem c cs → Reads c) → (a b : Arena) (ms : List ℕ) → Ext u a → sound table a ≡ true → each (renumbered vars words starts u) cs a ≡ Ok (ms, b)
       → flatten (map (occurrences b) ms) ≡ map (index vars) (flatten (map (occurrences u) cs))
   unfolding each flatten
   each_reads [] low h a b ms x k e = subst (λ (v : List ℕ × Arena). flatten (map (occurrences v.1) v.0) ≡ []) (ok_same e) refl
@@ -64,7 +64,7 @@ module _ (vars : List ℕ) (words starts table : ℕ) (few : starts ≤ 4096) (s
     inside : (c : ℕ) → Mem c (children (at u n)) → c < length u
     inside c i = omega (arith, low c i, l)
 
-    module _ (a b : Arena) (m : ℕ) (x : Ext u a) (h : sound table a ≡ true) (e : renumbered vars words starts u n a ≡ ok (m, b)) where
+    module _ (a b : Arena) (m : ℕ) (x : Ext u a) (h : sound table a ≡ true) (e : renumbered vars words starts u n a ≡ Ok (m, b)) where
       reads_var : disc (kind (tag (at u n))) ≡ 3 → occurrences b m ≡ map (index vars) (occurrences u n)
       reads_var q =
           let T = kind_var (tag (at u n)) q in

@@ -6,7 +6,8 @@ use mathlib.Core.List.{List, ◌∷◌, Memᴰ as Mem}
 use mathlib.Core.Option.{Option, none, some}
 use native.Mathlib.Omega.{arith}
 use lib.ListN.{length}
-use Rattle.types.specs.Out.{refuse}
+use Rattle.std.specs.Prelude.{Err}
+use Rattle.types.specs.declared.refusal.Refusal.TheVariants as refusal
 use Rattle.types.specs.Node.{var, Node, tag, children}
 use Rattle.types.specs.Arena.{Arena, at, sound, here, more}
 use Rattle.types.proofs.Growth.{ext_tail, ext_trans, ext_length, ext_rec, before, rec_at}
@@ -36,7 +37,7 @@ module _ (vars : List ℕ) (words starts : ℕ) where
   module _ (table : ℕ) (u : Arena) (g : sound table u ≡ true) (n : ℕ) (l : n < length u) (b : Arena) where
     at_step : renumbered vars words starts u n b ≡ renumber_step vars words starts (before u n l).older (at u n) (renumbered vars words starts (before u n l).older) b
     unfolding renumbered
-    at_step = λ i. rec_at (renumber_step vars words starts) (λ a. refuse 6) u n l i b
+    at_step = λ i. rec_at (renumber_step vars words starts) (λ a. Err refusal.NoSuchRoot) u n l i b
 
     pub at_var : (v : ℕ) → tag (at u n) ≡ var v → renumbered vars words starts u n b ≡ intern words starts (var_node (index vars v)) b
     at_var v e = at_step ∙ step_var (before u n l).older (at u n) (renumbered vars words starts (before u n l).older) b v (ap var_number e)
@@ -47,7 +48,7 @@ module _ (vars : List ℕ) (words starts : ℕ) where
         let B = before u n l in
         let low : (c : ℕ) → Mem c (children (at u n)) → c < length B.older = λ c k. let j = index_of k in omega (arith, j.is, B.count, child_lower table u g n l j.index j.inside) in
         at_step ∙ step_other B.older (at u n) (renumbered vars words starts B.older) b e
-        ∙ rebuild_same words starts (tag (at u n)) (renumbered vars words starts B.older) (renumbered vars words starts u) (children (at u n)) (λ c k. sym (ext_rec (renumber_step vars words starts) (λ a. refuse 6) B.older u (ext_tail B.ext) c (low c k))) b
+        ∙ rebuild_same words starts (tag (at u n)) (renumbered vars words starts B.older) (renumbered vars words starts u) (children (at u n)) (λ c k. sym (ext_rec (renumber_step vars words starts) (λ a. Err refusal.NoSuchRoot) B.older u (ext_tail B.ext) c (low c k))) b
 
   -- ---- steady
   module _ (table : ℕ) (few : starts ≤ 4096) (short : length vars ≤ 4096) where
@@ -64,7 +65,7 @@ module _ (vars : List ℕ) (words starts : ℕ) where
 
     pub renumbered_steady : (u : Arena) → sound table u ≡ true → (n : ℕ) → n < length u → Steady table u There (renumbered vars words starts u n)
     unfolding renumbered
-    renumbered_steady u g n l = rec_steady table table (λ (v : Job) (i : Unit {0}). v) (renumber_step vars words starts) (λ a. refuse 6) (λ (s : Arena). s) (λ x s. more x here) step_steady u g n l tt
+    renumbered_steady u g n l = rec_steady table table (λ (v : Job) (i : Unit {0}). v) (renumber_step vars words starts) (λ a. Err refusal.NoSuchRoot) (λ (s : Arena). s) (λ x s. more x here) step_steady u g n l tt
 
 pub lawful : {vars : List ℕ} → Lawful (renumbered vars) (Numbered vars)
 lawful {vars} = record {

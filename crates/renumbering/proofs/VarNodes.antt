@@ -7,6 +7,7 @@ use native.Mathlib.Omega.{arith}
 use lib.ListN.{length, get_or}
 use borrow.Author.Tests.{lt-ltb}
 use Rattle.words.specs.Words.{head_word}
+use Rattle.types.specs.Out.{Out}
 use Rattle.types.specs.Kind.{body_count}
 use Rattle.types.specs.Node.{var, tag, child_words_in, head_of, encode, encode_in, well, well_in}
 use Rattle.types.specs.Arena.{Arena, at}
@@ -17,7 +18,6 @@ use Rattle.types.proofs.Sound.{at_formed}
 use Rattle.node_store.specs.Inner.Stored.{Lent, InRange, NodeAt}
 use Rattle.node_store.specs.Intern.{intern, left}
 use Rattle.node_store.specs.Inner.Added.{Fresh, Interns}
-use Rattle.node_store.specs.declared.added.Interned.{Interned}
 use Rattle.free_vars.proofs.Occurrences.{kind_var, var_alone}
 use Rattle.renumbering.specs.Renumbered.{index, var_node}
 use Rattle.renumbering.specs.Inner.{VarAt, VarIs, VarWords, RenumbersVar}
@@ -59,7 +59,7 @@ var_fresh {v = v} X L = record { table = L.table; view = L.view; holds = L.holds
 pub place_fits : (vars : List ℕ) (v : ℕ) {p : ℕ} → length vars ≤ 4096 → p ≡ index vars v → p < 2 ^ 32
 place_fits vars v l e = omega (arith, l, e, index_few vars v)
 
-pub var_renumbered : {vars w s : List ℕ} {c : Counters} {n x v p : ℕ} {ws w' s' : List ℕ} {r : Interned} → x ≡ n → VarIs w s c x v → p ≡ index vars v → VarWords p ws → Interns w s c ws w' s' r → RenumbersVar vars w s c n w' s' r
+pub var_renumbered : {vars w s : List ℕ} {c : Counters} {n x v p : ℕ} {ws w' s' : List ℕ} {r : Out (ℕ × Counters)} → x ≡ n → VarIs w s c x v → p ≡ index vars v → VarWords p ws → Interns w s c ws w' s' r → RenumbersVar vars w s c n w' s' r
 var_renumbered {vars} {w} {s} {c} {n} {x} {v} {p} {w' = w'} {s'} {r} e T q X I = record {
   is = λ table a u H t.
       let z = sym (T.is table a H) ∙ ap (λ (i : ℕ). tag (at a i)) e ∙ t in

@@ -6,6 +6,9 @@ use mathlib.Core.Option.{none}
 use native.Mathlib.Omega.{arith}
 use lib.ListN.{length, take}
 use lib.Seq.{length-take-le}
+use Rattle.std.specs.Prelude.{Ok, Err}
+use Rattle.types.specs.declared.refusal.Refusal.{Refusal}
+use Rattle.types.specs.Out.{Out}
 use Rattle.types.specs.Kind.{disc}
 use Rattle.types.specs.Node.{Tag, members, bound, var, neg, form, Node, node, tag, kind, children, below}
 use Rattle.types.specs.Arena.{at, here}
@@ -15,15 +18,11 @@ use Rattle.types.proofs.Growth.{ext_length, ext_at}
 use Rattle.types.proofs.Sound.{sound_ext, children_below}
 use Rattle.node_store.specs.Inner.Stored.{InRange}
 use Rattle.node_store.specs.Intern.{intern}
-use Rattle.node_store.specs.declared.added.Interned.{Interned}
-use Rattle.node_store.specs.declared.added.Interned.TheVariants as interned
 use Rattle.node_reading.specs.Inner.{KindAt}
 use Rattle.rebuilding.specs.Inner.Children.{AllChildren}
 use Rattle.rebuilding.specs.Inner.Rebuilt.{Rebuilding, Rebuilds}
 use Rattle.rebuilding.specs.declared.children.Children.{Children}
 use Rattle.recursion.specs.Inner.Work.{Leads, Ready, Does, EachReady, DoesEach}
-use Rattle.recursion.specs.declared.Run.{Run}
-use Rattle.recursion.specs.declared.Run.TheVariants as run
 use Rattle.recursion.proofs.Leading.{each_done, reply_leads}
 use Rattle.recursion.proofs.Nodes.{Rebuilt, InternsAs, node_refused, node_done}
 use Rattle.free_vars.proofs.Occurrences.{kind_var}
@@ -65,7 +64,7 @@ module _ {vars w s : List ℕ} {c : Counters} {n : ℕ} {entries : List ℕ} (P 
     pub ready_var : k ≡ 3 → VarAt w s c n
     ready_var q = record { lent = record { table = P.table; view = P.view; holds = P.holds }; inside = inside; kind_is = subst (KindAt w s c n) q kind_here }
 
-    pub var_done : k ≡ 3 → {w' s' : List ℕ} {r : Interned} → RenumbersVar vars w s c n w' s' r → length w' ≡ length w → length s' ≡ length s → Does (renumbered vars) (Numbered vars) w s c n entries w' s' entries r
+    pub var_done : k ≡ 3 → {w' s' : List ℕ} {r : Out (ℕ × Counters)} → RenumbersVar vars w s c n w' s' r → length w' ≡ length w → length s' ≡ length s → Does (renumbered vars) (Numbered vars) w s c n entries w' s' entries r
     var_done q {w'} {s'} {r} R lw ls = record {
       is = λ table u a H N l C.
           let T = kind_var (tag (at a n)) (sym (kind_here.is table a H) ∙ q) in
@@ -88,7 +87,7 @@ module _ {vars w s : List ℕ} {c : Counters} {n : ℕ} {entries : List ℕ} (P 
         let X = L.is P.table P.view P.holds in
         record { ready = P; long = X.long; few = X.few; low = ap (below n) X.is ∙ children_below P.table P.view P.holds.good n (omega (arith, inside, P.holds.nodes)) }
 
-    module _ {w' s' items' entries' : List ℕ} {g : Run} (E : DoesEach (renumbered vars) (Numbered vars) w s c n r.items r.count entries w' s' items' entries' g) {d : Counters} (q : g ≡ run.Went d) where
+    module _ {w' s' items' entries' : List ℕ} {g : Out Counters} (E : DoesEach (renumbered vars) (Numbered vars) w s c n r.items r.count entries w' s' items' entries' g) {d : Counters} (q : g ≡ Ok d) where
       pub rebuilding : Rebuilding w' s' d n items' r.count
       rebuilding =
           let D = each_done (E.is P.table P.source P.view P.holds P.beside P.inside P.cache) q in
@@ -105,14 +104,14 @@ module _ {vars w s : List ℕ} {c : Counters} {n : ℕ} {entries : List ℕ} (P 
           }
 
 -- the answer is that of the node with the children that it has by then
-interns_as : {vars w s : List ℕ} {c : Counters} {n : ℕ} {items : List ℕ} {count : ℕ} {w' s' : List ℕ} {r : Interned} → Rebuilds w s c n items count w' s' r → InternsAs (Numbered vars) (λ t. t) w s c n items count w' s' r
+interns_as : {vars w s : List ℕ} {c : Counters} {n : ℕ} {items : List ℕ} {count : ℕ} {w' s' : List ℕ} {r : Out (ℕ × Counters)} → Rebuilds w s c n items count w' s' r → InternsAs (Numbered vars) (λ t. t) w s c n items count w' s' r
 interns_as {w = w} {s} {c} {n} {items} {count} R = record {
   is = λ table u a H N l. R.is table a H ∙ ap (λ (y : Node). reply_of w s c (intern (length w) (length s) (node (tag y) (take count items)) a)) (ext_at u a N.grown n l);
 }
 
 -- ---- any other node
 module _ {vars w s : List ℕ} {c : Counters} {n : ℕ} {entries : List ℕ} (P : Ready (renumbered vars) (Numbered vars) w s c n entries) {x k : ℕ} (e : x ≡ n) (K : KindAt w s c x k) {r : Children} (L : AllChildren w s c n r)
-    {w' s' items' entries' : List ℕ} {g : Run} (E : DoesEach (renumbered vars) (Numbered vars) w s c n r.items r.count entries w' s' items' entries' g) where
+    {w' s' items' entries' : List ℕ} {g : Out Counters} (E : DoesEach (renumbered vars) (Numbered vars) w s c n r.items r.count entries w' s' items' entries' g) where
   rebuilt : (k ≡ 3 → ⊥) → Rebuilt (renumbered vars) (Numbered vars) (λ t. t) w s c n r.items r.count
   rebuilt f = record {
     kids = λ table u a H N l. (L.is table a H).is ∙ ap children (ext_at u a N.grown n l);
@@ -121,9 +120,9 @@ module _ {vars w s : List ℕ} {c : Counters} {n : ℕ} {entries : List ℕ} (P 
         (no_var (tag (at u n)) (λ z. f (K.is table a H ∙ ap (λ (i : ℕ). disc (kind (tag (at a i)))) e ∙ ap (λ (y : Node). disc (kind (tag y))) (ext_at u a N.grown n l) ∙ z)));
   }
 
-  pub other_refused : {v : ℕ} → g ≡ run.Refused v → (k ≡ 3 → ⊥) → Does (renumbered vars) (Numbered vars) w s c n entries w' s' entries' (interned.Refused v)
+  pub other_refused : {v : Refusal} → g ≡ Err v → (k ≡ 3 → ⊥) → Does (renumbered vars) (Numbered vars) w s c n entries w' s' entries' (Err v)
   other_refused q f = node_refused lawful (rebuilt f) E q
 
-  pub other_done : {d : Counters} → g ≡ run.Went d → {w'' s'' : List ℕ} {i : Interned} → Rebuilds w' s' d n items' r.count w'' s'' i → (k ≡ 3 → ⊥) → length w' ≡ length w → length s' ≡ length s → length w'' ≡ length w' → length s'' ≡ length s'
+  pub other_done : {d : Counters} → g ≡ Ok d → {w'' s'' : List ℕ} {i : Out (ℕ × Counters)} → Rebuilds w' s' d n items' r.count w'' s'' i → (k ≡ 3 → ⊥) → length w' ≡ length w → length s' ≡ length s → length w'' ≡ length w' → length s'' ≡ length s'
       → Does (renumbered vars) (Numbered vars) w s c n entries w'' s'' entries' i
   other_done q R f lw ls lw' ls' = node_done lawful (rebuilt f) E q (interns_as R) lw ls lw' ls'

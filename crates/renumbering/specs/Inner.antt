@@ -1,5 +1,6 @@
 -- What the inner functions of `renumber` ask and answer.
 use Rattle.std.specs.Prelude.{ℕ, ◌<◌, ◌≤◌, ◌≡◌, List, length}
+use Rattle.types.specs.Out.{Out}
 use Rattle.types.specs.Node.{var, tag, IsNode}
 use Rattle.types.specs.Arena.{Arena, at, Ext}
 use Rattle.types.specs.Memory.{Holds}
@@ -7,7 +8,6 @@ use Rattle.types.specs.Reply.{reply_of}
 use Rattle.types.specs.declared.Counters.{Counters}
 use Rattle.node_store.specs.Inner.Stored.{Lent}
 use Rattle.node_store.specs.Intern.{intern, left}
-use Rattle.node_store.specs.declared.added.Interned.{Interned}
 use Rattle.node_reading.specs.Inner.{KindAt}
 use Rattle.renumbering.specs.Renumbered.{index, var_node}
 
@@ -31,6 +31,6 @@ pub record VarWords (v : ℕ) (ws : List ℕ) : Type 0 where
   pub is : (table nodes : ℕ) → IsNode table nodes ws (var_node v)
 
 -- the answer, and memory after, are those of interning the variable of the place in the list that the variable at node n has
-pub record RenumbersVar (vars w s : List ℕ) (c : Counters) (n : ℕ) (w' s' : List ℕ) (r : Interned) : Type 0 where
+pub record RenumbersVar (vars w s : List ℕ) (c : Counters) (n : ℕ) (w' s' : List ℕ) (r : Out (ℕ × Counters)) : Type 0 where
   pub is : (table : ℕ) (a : Arena) (v : ℕ) → Holds table w s c a → tag (at a n) ≡ var v
       → left c r w' s' ≡ reply_of w s c (intern (length w) (length s) (var_node (index vars v)) a)

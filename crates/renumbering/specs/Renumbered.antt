@@ -1,7 +1,7 @@
 -- A type with its variables numbered by their places in a list, without a cache.
-use Rattle.std.specs.Prelude.{ℕ, suc, true, false, List, [], ◌∷◌, eqb}
+use Rattle.std.specs.Prelude.{ℕ, suc, true, false, List, [], ◌∷◌, eqb, Err}
 use Rattle.std.proofs.Math.Option.{Option, none, some}
-use Rattle.types.specs.Out.{refuse}
+use Rattle.types.specs.declared.refusal.Refusal.TheVariants as refusal
 use Rattle.types.specs.Node.{Tag, members, bound, var, neg, form, Node, node, tag, children}
 use Rattle.types.specs.Arena.{Arena, rec}
 use Rattle.node_store.specs.Intern.{intern}
@@ -37,4 +37,4 @@ module _ (vars : List ℕ) (words starts : ℕ) where
   -- node n of the arena s, renumbered in an arena that grew from s
   unfoldable pub renumbered : Arena → ℕ → Job
   unfolding rec renumber_step
-  renumbered = rec renumber_step (λ a. refuse 6)
+  renumbered = rec renumber_step (λ a. Err refusal.NoSuchRoot)

@@ -6,12 +6,11 @@ ghost use Rattle.renumbering.specs.Inner.{Numbered};
 
 use crate::vars::renumber_var;
 use node_reading::nodes::kind_at;
-use node_store::added::Interned;
 use rebuilding::children::all_children;
 use rebuilding::node::rebuild;
-use recursion::{Run, cached, item_at, remember};
-use types::Counters;
+use recursion::{cached, item_at, remember};
 use types::arc_ty::{Head, wide};
+use types::{Counters, Refusal};
 
 // What node n becomes, remembered. The variables are listed in the order of their numbers.
 #[cycle(renumbering)]
@@ -23,7 +22,7 @@ pub fn renumber_node(
     vars: &[u32],
     cache: &mut [u32; 4096],
     filter: &mut [u64; 2048],
-) -> Interned
+) -> Result<(u32, Counters), Refusal>
     requires ready { Ready (renumbered vars.now) (Numbered vars.now) words.old starts.old c n cache.old }
     requires covers_lent { CoversLent words.old starts.old c filter.old }
     ensures does { Does (renumbered vars.now) (Numbered vars.now) words.old starts.old c n
@@ -32,14 +31,14 @@ pub fn renumber_node(
 {
     let hit = cached(cache, n);
     if hit != 0 {
-        return Interned::Node(hit - 1, c);
+        return Ok((hit - 1, c));
     }
     let r = renumber_uncached(words, starts, c, n, vars, cache, filter);
-    let Interned::Node(m, d) = r else {
+    let Ok((m, d)) = r else {
         return r;
     };
     remember(cache, n, m);
-    Interned::Node(m, d)
+    Ok((m, d))
 }
 
 // The same, worked out.
@@ -52,7 +51,7 @@ fn renumber_uncached(
     vars: &[u32],
     cache: &mut [u32; 4096],
     filter: &mut [u64; 2048],
-) -> Interned
+) -> Result<(u32, Counters), Refusal>
     requires ready { Ready (renumbered vars.now) (Numbered vars.now) words.old starts.old c n cache.old }
     requires covers_lent { CoversLent words.old starts.old c filter.old }
     ensures does { Does (renumbered vars.now) (Numbered vars.now) words.old starts.old c n
@@ -64,7 +63,7 @@ fn renumber_uncached(
     }
     let mut list = all_children(words, starts, c, n);
     let count = list.count;
-    let r = renumber_each(
+    let d = renumber_each(
         words,
         starts,
         c,
@@ -74,10 +73,7 @@ fn renumber_uncached(
         vars,
         cache,
         filter,
-    );
-    let Run::Went(d) = r else {
-        return Interned::Refused(r.refusal());
-    };
+    )?;
     rebuild(words, starts, d, n, &list.items, count, filter)
 }
 
@@ -93,7 +89,7 @@ fn renumber_each(
     vars: &[u32],
     cache: &mut [u32; 4096],
     filter: &mut [u64; 2048],
-) -> Run
+) -> Result<Counters, Refusal>
     requires each_ready { EachReady (renumbered vars.now) (Numbered vars.now) words.old starts.old c n items.old count cache.old }
     requires covers_lent { CoversLent words.old starts.old c filter.old }
     ensures does_each { DoesEach (renumbered vars.now) (Numbered vars.now) words.old
@@ -102,16 +98,11 @@ fn renumber_each(
     ensures covers_run { CoversRun words.new starts.new result filter.new }
 {
     let mut last = c;
-    let mut i = 0;
-    while i < count {
+    for i in 0..count {
         let item = item_at(items, i);
-        let r = renumber_node(words, starts, last, item, vars, cache, filter);
-        let Interned::Node(m, d) = r else {
-            return Run::Refused(r.refusal());
-        };
+        let (m, d) = renumber_node(words, starts, last, item, vars, cache, filter)?;
         items[i] = m;
         last = d;
-        i += 1;
     }
-    Run::Went(last)
+    Ok(last)
 }

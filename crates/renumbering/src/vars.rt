@@ -5,23 +5,15 @@ ghost use Rattle.renumbering.specs.Renumbered.{index};
 ghost use Rattle.renumbering.specs.Inner.{VarAt, VarIs, VarWords, RenumbersVar};
 
 use node_filter::intern_near;
-use node_store::added::Interned;
 use node_store::stored::node_at;
-use types::Counters;
 use types::arc_ty::{Head, wide};
+use types::{Counters, Refusal};
 
 // The place of a variable in a list; the length of the list, if it has none.
 fn index_of(vars: &[u32], v: u32) -> usize
     ensures { result ≡ index vars.now v }
 {
-    let mut i = 0;
-    while i < vars.len() {
-        if vars[i] == v {
-            return i;
-        }
-        i += 1;
-    }
-    i
+    vars.iter().position(|var| *var == v).unwrap_or(vars.len())
 }
 
 // The number of the variable at node n.
@@ -48,7 +40,7 @@ pub fn renumber_var(
     n: u32,
     vars: &[u32],
     filter: &mut [u64; 2048],
-) -> Interned
+) -> Result<(u32, Counters), Refusal>
     requires var_at { VarAt words.old starts.old c n }
     requires vars_len_bound { length vars.now ≤ 4096 }
     requires covers_lent { CoversLent words.old starts.old c filter.old }

@@ -2,126 +2,164 @@
 // a call. What it must print was made by the Rust (compare/reference/src/bin/rewritten.rs).
 #![tactic(auto)]
 
-mod lines;
-
-use deep_types::{Step, put_chain};
-use lines::{compacted, compared, imported, normalized};
+use answer_writing::answer::{Good, stored, tell, yes};
+use compact::compact;
+use deep_types::{Arena, Chain, TABLE, chains};
+use equal::structurally_eq;
+use import::import_from_arena;
+use renumber::{normalize_replacing_unknown, normalize_vars};
+use set_ops::normalize_set_ops;
+use std::alloc::Global;
 use std::io;
-use types::Counters;
-use types::arc_ty::Head;
+use types::{Counters, Refusal};
 
-// The calls that change their arena, on a chain each.
-fn change(rt: &impl Print, shape: &str, int: bool, step: Step, op: u8) -> io::Result<()> {
-    let mut words = [0u32; 16384];
-    let mut starts = [0u32; 4096];
-    let c = put_chain(&mut words, &mut starts, int, step);
-    normalized(rt, shape, op, &mut words, &mut starts, c, 4095)
+// The newest node of a chain.
+const ROOT: u32 = 4095;
+
+// A call that changes its arena, on a chain.
+fn change<
+    F: FnOnce(&[u8], &mut [u32], &mut [u32], Counters, u32) -> Result<(u32, Counters), Refusal>,
+>(rt: &impl Print, shape: &str, mut arena: Arena, call: &str, normalize: F) -> io::Result<()>
+    requires { F.IsAlwaysCallable normalize }
+{
+    let answer = normalize(
+        &TABLE,
+        &mut arena.words,
+        &mut arena.starts,
+        arena.counters,
+        ROOT,
+    );
+    tell(rt, shape, call, answer.map(stored).map(Good))
 }
 
-// The calls that read one arena and another, on a chain, a copy of it and the same chain once more.
-fn pair(rt: &impl Print, shape: &str, int: bool, step: Step) -> io::Result<()> {
-    let mut words = [0u32; 16384];
-    let mut starts = [0u32; 4096];
-    let c = put_chain(&mut words, &mut starts, int, step);
-    let mut other_words = [0u32; 16384];
-    let mut other_starts = [0u32; 4096];
-    let none = Counters { nodes: 0, words: 0 };
-    let d = compacted(
+// The chain copied into an arena without nodes.
+fn copy(rt: &impl Print, shape: &str, arena: &Arena, other: &mut Arena) -> io::Result<()> {
+    let r = compact(
+        &TABLE,
+        &arena.words,
+        &arena.starts,
+        arena.counters,
+        ROOT,
+        &mut other.words,
+        &mut other.starts,
+        other.counters,
+    );
+    other.counters = r.counters;
+    tell(
         rt,
         shape,
-        &words,
-        &starts,
-        c,
-        4095,
-        &mut other_words,
-        &mut other_starts,
-        none,
-    )?;
-    compared(
-        rt,
-        shape,
-        &words,
-        &starts,
-        c,
-        &other_words,
-        &other_starts,
-        d,
+        "compact",
+        r.answer.map(|root| Good(stored((root, r.counters)))),
     )
 }
 
-// A chain imported into an arena without nodes, and once more into what that left.
-fn import_twice(rt: &impl Print, shape: &str, int: bool, step: Step) -> io::Result<()> {
-    let mut words = [0u32; 16384];
-    let mut starts = [0u32; 4096];
-    let c = put_chain(&mut words, &mut starts, int, step);
-    let mut target_words = [0u32; 16384];
-    let mut target_starts = [0u32; 4096];
-    let none = Counters { nodes: 0, words: 0 };
-    let d = imported(
+// The newest node of an arena beside one of the other.
+fn compare(
+    rt: &impl Print,
+    shape: &str,
+    call: &str,
+    arena: &Arena,
+    other: &Arena,
+    root: u32,
+) -> io::Result<()> {
+    let answer = structurally_eq(
+        &TABLE,
+        &arena.words,
+        &arena.starts,
+        arena.counters,
+        ROOT,
+        &TABLE,
+        &other.words,
+        &other.starts,
+        other.counters,
+        root,
+    );
+    tell(rt, shape, call, answer.map(yes))
+}
+
+// The chain imported into another arena under the same names.
+fn import(
+    rt: &impl Print,
+    shape: &str,
+    call: &str,
+    arena: &Arena,
+    target: &mut Arena,
+) -> io::Result<()> {
+    let answer = import_from_arena(
+        &TABLE,
+        &arena.words,
+        &arena.starts,
+        arena.counters,
+        ROOT,
+        &TABLE,
+        &mut target.words,
+        &mut target.starts,
+        target.counters,
+    );
+    if let Ok((_, after)) = answer {
+        target.counters = after;
+    }
+    tell(rt, shape, call, answer.map(stored).map(Good))
+}
+
+// The calls that change their arena, on a chain each.
+fn change_each(rt: &impl Print, alloc: Global, chain: Chain) -> io::Result<()> {
+    let shape = chain.name;
+    change(
         rt,
         shape,
-        "import_from_arena",
-        &words,
-        &starts,
-        c,
-        4095,
-        &mut target_words,
-        &mut target_starts,
-        none,
+        chain.arena(alloc)?,
+        "normalize_vars",
+        normalize_vars,
     )?;
-    imported(
+    let arena = chain.arena(alloc)?;
+    change(
+        rt,
+        shape,
+        arena,
+        "normalize_replacing_unknown",
+        normalize_replacing_unknown,
+    )?;
+    change(
+        rt,
+        shape,
+        chain.arena(alloc)?,
+        "normalize_set_ops",
+        normalize_set_ops,
+    )
+}
+
+// The calls that read one arena and another, on a chain and a copy of it, and on one imported into an arena without nodes and once
+// more into what that left.
+fn call_between(rt: &impl Print, alloc: Global, chain: Chain) -> io::Result<()> {
+    let shape = chain.name;
+    let arena = chain.arena(alloc)?;
+    let mut other = Arena::new(alloc).full()?;
+    copy(rt, shape, &arena, &mut other)?;
+    compare(rt, shape, "structurally_eq", &arena, &other, ROOT)?;
+    compare(
+        rt,
+        shape,
+        "structurally_eq of the node before",
+        &arena,
+        &other,
+        ROOT - 1,
+    )?;
+    let mut target = Arena::new(alloc).full()?;
+    import(rt, shape, "import_from_arena", &arena, &mut target)?;
+    import(
         rt,
         shape,
         "import_from_arena once more",
-        &words,
-        &starts,
-        c,
-        4095,
-        &mut target_words,
-        &mut target_starts,
-        d,
-    )?;
-    Ok(())
-}
-
-fn chain(rt: &impl Print, shape: &str, int: bool, step: Step) -> io::Result<()> {
-    change(rt, shape, int, step, 10)?;
-    change(rt, shape, int, step, 12)?;
-    change(rt, shape, int, step, 17)?;
-    pair(rt, shape, int, step)?;
-    import_twice(rt, shape, int, step)
-}
-
-// Each node is both children of the next, so the variable has 2^4095 places.
-fn shared(rt: &impl Print) -> io::Result<()> {
-    chain(rt, "shared lambdas", false, Step::Both(Head::LAMBDA))?;
-    chain(rt, "shared unions", false, Step::Both(Head::UNION))
-}
-
-// Each node is a child of the next. A lambda's other child is the variable, and int is below such a chain.
-fn deep(rt: &impl Print) -> io::Result<()> {
-    chain(rt, "lists", false, Step::Child(Head::LIST, Head::LIST))?;
-    chain(rt, "lambdas by param", true, Step::Param)?;
-    chain(rt, "lambdas by body", true, Step::Body)?;
-    chain(rt, "unions", false, Step::Child(Head::UNION, Head::UNION))?;
-    chain(
-        rt,
-        "intersections",
-        false,
-        Step::Child(Head::INTERSECTION, Head::INTERSECTION),
-    )?;
-    chain(
-        rt,
-        "unions and intersections",
-        false,
-        Step::Child(Head::UNION, Head::INTERSECTION),
-    )?;
-    chain(rt, "negs", false, Step::Child(Head::NEG, Head::NEG))?;
-    chain(rt, "names", false, Step::Field(Head::NAMED))?;
-    chain(rt, "sets", false, Step::Field(Head::ATTR_SET))
+        &arena,
+        &mut target,
+    )
 }
 
 fn main(rt: HostRuntime) -> io::Result<()> {
-    shared(&rt)?;
-    deep(&rt)
+    for chain in chains() {
+        change_each(&rt, rt.alloc(), chain)?;
+        call_between(&rt, rt.alloc(), chain)?;
+    }
+    Ok(())
 }

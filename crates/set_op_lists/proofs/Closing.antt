@@ -6,7 +6,8 @@ use native.Mathlib.Omega.{arith}
 use lib.ListN.{length, get_or, take, replicate}
 use lib.Seq.{get_or-take}
 use borrow.Author.Tests.{eq-eqb, ne_eqb}
-use Rattle.types.specs.Out.{ok}
+use Rattle.std.specs.Prelude.{Ok}
+use Rattle.types.specs.Out.{Out}
 use Rattle.types.specs.Kind.{disc}
 use Rattle.types.specs.Node.{Polarity, positive, negative, members, node, kind, below}
 use Rattle.types.specs.Arena.{Arena}
@@ -14,8 +15,6 @@ use Rattle.types.specs.Memory.{Holds}
 use Rattle.types.specs.Reply.{reply_of}
 use Rattle.types.specs.declared.Counters.{Counters}
 use Rattle.node_store.specs.Intern.{intern}
-use Rattle.node_store.specs.declared.added.Interned.{Interned}
-use Rattle.node_store.specs.declared.added.Interned.TheVariants as interned
 use Rattle.member_lists.specs.Inner.Members.{Filled, InternsList}
 use Rattle.member_lists.proofs.Closings.{stands}
 use Rattle.member_lists.proofs.Copying.{room_length}
@@ -26,7 +25,7 @@ use Rattle.set_op_lists.specs.SetOps.{stand_for}
 use Rattle.set_op_lists.specs.Inner.{StandsFor}
 
 module _ (lw ls : ℕ) (k : Polarity) (ms : List ℕ) (a : Arena) where
-  pub stand_for_one : length ms ≡ 1 → stand_for lw ls k ms a ≡ ok (get_or ms 0 0, a)
+  pub stand_for_one : length ms ≡ 1 → stand_for lw ls k ms a ≡ Ok (get_or ms 0 0, a)
   unfolding stand_for
   stand_for_one e = rw (stand_for, eq-eqb (length ms) 1 e)
 
@@ -54,11 +53,11 @@ module _ {w s : List ℕ} {c : Counters} {number : ℕ} {items : List ℕ} {coun
     long_is : (a : Arena) → length (sort a (take count items)) ≡ count
     long_is a = (sorted a (take count items)).count ∙ count_is
 
-    pub closed_one : count ≡ 1 → StandsFor w s c number items count w s (interned.Node (get_or list 0 0) c)
+    pub closed_one : count ≡ 1 → StandsFor w s c number items count w s (Ok (get_or list 0 0, c))
     closed_one q = record {
       is = λ table a k H p.
           let m : get_or (sort a (take count items)) 0 0 ≡ get_or list 0 0 = ap (λ (l : List ℕ). get_or l 0 0) (sym (sort_is H)) ∙ get_or-take count list 0 0 F.some in
-          stands (get_or list 0 0) H ∙ ap (λ (n : ℕ). reply_of w s c (ok (n, a))) (sym m) ∙ ap (reply_of w s c) (sym (stand_for_one (length w) (length s) k (sort a (take count items)) a (long_is a ∙ q)));
+          stands (get_or list 0 0) H ∙ ap (λ (n : ℕ). reply_of w s c (Ok (n, a))) (sym m) ∙ ap (reply_of w s c) (sym (stand_for_one (length w) (length s) k (sort a (take count items)) a (long_is a ∙ q)));
     }
 
     pub sorted_ready : Filled w s c number list count
@@ -73,7 +72,7 @@ module _ {w s : List ℕ} {c : Counters} {number : ℕ} {items : List ℕ} {coun
           some = F.some;
         }
 
-    pub closed_several : (count ≡ 1 → ⊥) → {w' s' : List ℕ} {r : Interned} → InternsList w s c number list count w' s' r → StandsFor w s c number items count w' s' r
+    pub closed_several : (count ≡ 1 → ⊥) → {w' s' : List ℕ} {r : Out (ℕ × Counters)} → InternsList w s c number list count w' s' r → StandsFor w s c number items count w' s' r
     closed_several f I = record {
       is = λ table a k H p.
           I.is table a k H p ∙ ap (λ (l : List ℕ). reply_of w s c (intern (length w) (length s) (node (members k) l) a)) (sort_is H)
@@ -94,8 +93,8 @@ module _ {w s : List ℕ} {c : Counters} {number : ℕ} {items : List ℕ} {coun
   pub as_intersection : (number ≡ 7 → ⊥) → Filled w s c 8 items count
   as_intersection f = subst (λ (k : ℕ). Filled w s c k items count) (no_union f) F
 
-  pub closed_union : number ≡ 7 → {w' s' : List ℕ} {r : Interned} → StandsFor w s c 7 items count w' s' r → StandsFor w s c number items count w' s' r
+  pub closed_union : number ≡ 7 → {w' s' : List ℕ} {r : Out (ℕ × Counters)} → StandsFor w s c 7 items count w' s' r → StandsFor w s c number items count w' s' r
   closed_union q {w'} {s'} {r} = subst (λ (k : ℕ). StandsFor w s c k items count w' s' r) (sym q)
 
-  pub closed_intersection : (number ≡ 7 → ⊥) → {w' s' : List ℕ} {r : Interned} → StandsFor w s c 8 items count w' s' r → StandsFor w s c number items count w' s' r
+  pub closed_intersection : (number ≡ 7 → ⊥) → {w' s' : List ℕ} {r : Out (ℕ × Counters)} → StandsFor w s c 8 items count w' s' r → StandsFor w s c number items count w' s' r
   closed_intersection f {w'} {s'} {r} = subst (λ (k : ℕ). StandsFor w s c k items count w' s' r) (sym (no_union f))

@@ -2,39 +2,18 @@
 // number of their kind.
 #![tactic(auto)]
 
-ghost use Rattle.std.specs.Prelude.{◌<◌, ◌≡◌, []};
-ghost use Rattle.types.specs.Out.{number};
+ghost use Rattle.std.specs.Prelude.{◌<◌};
 ghost use Rattle.node_filter.specs.Inner.Filter.{CoversLent, CoversAfter};
 ghost use Rattle.member_lists.specs.Inner.Members.{Splicing, Filled};
-ghost use Rattle.set_op_lists.specs.Inner.{brought_out, Appends, Bringing, Brings, StandsFor};
+ghost use Rattle.set_op_lists.specs.Inner.{Appends, Bringing, Brings, StandsFor};
 
-use member_lists::growing::{Grown, append, append_children};
+use member_lists::growing::{append, append_children};
 use member_lists::{Members, intern_list};
 use member_sorting::sort_members;
 use node_reading::nodes::kind_at;
-use node_store::added::Interned;
 use node_store::stored::node_at;
-use types::Counters;
 use types::arc_ty::{Head, wide};
-
-// How long the list is after a member, and the counters then, or the number of a refusal.
-#[derive(Clone, Copy)]
-pub enum Brought {
-    Held(usize, Counters),
-    Refused(u32),
-}
-
-impl Brought {
-    // The number of a refusal, for an answer of another type.
-    pub fn refusal(self) -> u32
-        ensures { result ≡ number (brought_out [] self) }
-    {
-        match self {
-            Brought::Held(_, _) => 0,
-            Brought::Refused(number) => number,
-        }
-    }
-}
+use types::{Counters, Refusal};
 
 // Appends what the normalized member m brings to a list of a kind: a list of that kind its own members, any other itself.
 fn append_brought(
@@ -46,7 +25,7 @@ fn append_brought(
     items: &mut [u32; 64],
     met: &mut [u64; 64],
     count: usize,
-) -> Grown
+) -> Result<usize, Refusal>
     requires { Splicing words.now starts.now c m items.old count met.old }
     ensures { Appends words.now starts.now c kind m items.old count met.old
         items.new met.new result }
@@ -58,28 +37,23 @@ fn append_brought(
     append(items, met, count, m)
 }
 
-// The same from a member's outcome: a refusal is passed on, and a 65th member is refused by 8.
+// The same from a member's outcome, whose refusal is passed on; a 65th member is refused.
 pub fn bring(
     words: &[u32],
     starts: &[u32],
-    outcome: Interned,
+    outcome: Result<(u32, Counters), Refusal>,
     kind: u32,
     items: &mut [u32; 64],
     met: &mut [u64; 64],
     count: usize,
-) -> Brought
+) -> Result<(usize, Counters), Refusal>
     requires { Bringing words.now starts.now outcome kind items.old count met.old }
     ensures { Brings words.now starts.now outcome kind items.old count items.new
         met.new result }
 {
-    let Interned::Node(m, d) = outcome else {
-        return Brought::Refused(outcome.refusal());
-    };
-    let grown = append_brought(words, starts, d, kind, m, items, met, count);
-    let Grown::Count(next) = grown else {
-        return Brought::Refused(8);
-    };
-    Brought::Held(next, d)
+    let (m, d) = outcome?;
+    let next = append_brought(words, starts, d, kind, m, items, met, count)?;
+    Ok((next, d))
 }
 
 // What stands for a list of a kind, sorted: one member for itself, more as a node.
@@ -92,7 +66,7 @@ fn close_sorted(
     count: usize,
     near: u32,
     filter: &mut [u64; 2048],
-) -> Interned
+) -> Result<(u32, Counters), Refusal>
     requires filled { Filled words.old starts.old c kind items.now count }
     requires near_lt_nodes { near < c.nodes }
     requires covers_lent { CoversLent words.old starts.old c filter.old }
@@ -104,7 +78,7 @@ fn close_sorted(
     let mut sorted = [0u32; 64];
     sort_members(words, starts, c, &all[..count], &mut sorted);
     if count == 1 {
-        return Interned::Node(sorted[0], c);
+        return Ok((sorted[0], c));
     }
     intern_list(
         words,
@@ -130,7 +104,7 @@ pub fn close_list(
     count: usize,
     near: u32,
     filter: &mut [u64; 2048],
-) -> Interned
+) -> Result<(u32, Counters), Refusal>
     requires filled { Filled words.old starts.old c kind items.now count }
     requires near_lt_nodes { near < c.nodes }
     requires covers_lent { CoversLent words.old starts.old c filter.old }

@@ -20,7 +20,8 @@ use native.Mathlib.Omega.{arith}
 use native.Mathlib.Nat.{not-suc-le-zero}
 use native.Mathlib.Decide.{ℕ_discrete}
 use lib.ListN.{length, get_or}
-use Rattle.types.specs.Out.{ok, ◌>>=◌}
+use Rattle.std.specs.Prelude.{Ok}
+use Rattle.types.specs.Out.{◌>>=◌}
 use Rattle.types.specs.Node.{Polarity, Tag, members, Node, node, tag, children}
 use Rattle.types.specs.Arena.{Arena, at, fold, sound, Ext, here}
 use Rattle.types.proofs.Growth.{ext_trans, ext_length}
@@ -127,7 +128,7 @@ module _ {Y : Type 0} (value : Tag → List Y → Y) (M : ByMembers value) (word
     pub is : fold value b m ≡ fold value u c
 
   abbrev Becomes : ℕ → Type 0
-  Becomes c = (a b : Arena) (m : ℕ) → Ext u a → sound table a ≡ true → normalize words starts u c a ≡ ok (m, b) → Became c a m b
+  Becomes c = (a b : Arena) (m : ℕ) → Ext u a → sound table a ≡ true → normalize words starts u c a ≡ Ok (m, b) → Became c a m b
 
   -- several in turn
   record BecameAll (cs : List ℕ) (a : Arena) (ms : List ℕ) (b : Arena) : Type 0 where
@@ -142,7 +143,7 @@ module _ {Y : Type 0} (value : Tag → List Y → Y) (M : ByMembers value) (word
     is = ap₂ ◌∷◌ (ext_fold value d b S.ext m R.inside ∙ R.is) S.is;
   }
 
-  each_becomes : (cs : List ℕ) → ((c : ℕ) → Mem c cs → Becomes c) → (a b : Arena) (ms : List ℕ) → Ext u a → sound table a ≡ true → each (normalize words starts u) cs a ≡ ok (ms, b) → BecameAll cs a ms b
+  each_becomes : (cs : List ℕ) → ((c : ℕ) → Mem c cs → Becomes c) → (a b : Arena) (ms : List ℕ) → Ext u a → sound table a ≡ true → each (normalize words starts u) cs a ≡ Ok (ms, b) → BecameAll cs a ms b
   unfolding each
   each_becomes [] h a b ms x s e = subst (λ (v : List ℕ × Arena). BecameAll [] a v.0 v.1) (ok_same e) (record { ext = here; low = λ y i. absurd (not-nil i); is = refl })
   each_becomes (c ∷ cs) h a b ms x s e =
@@ -157,7 +158,7 @@ module _ {Y : Type 0} (value : Tag → List Y → Y) (M : ByMembers value) (word
     pub low : Low b l
     pub is : value (members k) (map (fold value b) l) ≡ value (members k) (map (fold value a) acc ++ map (fold value u) cs)
 
-  flatten_becomes : (k : Polarity) (cs : List ℕ) → ((c : ℕ) → Mem c cs → Becomes c) → (acc : List ℕ) (a b : Arena) (l : List ℕ) → Ext u a → sound table a ≡ true → Low a acc → flatten_set_op k (normalize words starts u) acc cs a ≡ ok (l, b) → Flattened k acc cs a l b
+  flatten_becomes : (k : Polarity) (cs : List ℕ) → ((c : ℕ) → Mem c cs → Becomes c) → (acc : List ℕ) (a b : Arena) (l : List ℕ) → Ext u a → sound table a ≡ true → Low a acc → flatten_set_op k (normalize words starts u) acc cs a ≡ Ok (l, b) → Flattened k acc cs a l b
   unfolding flatten_set_op
   flatten_becomes k [] h acc a b l x s low e = subst (λ (v : List ℕ × Arena). Flattened k acc [] a v.0 v.1) (ok_same e) (record { low = low; is = ap (value (members k)) (sym (append-nil (map (fold value a) acc))) })
   flatten_becomes k (c ∷ cs) h acc a b l x s low e =
@@ -178,7 +179,7 @@ module _ {Y : Type 0} (value : Tag → List Y → Y) (M : ByMembers value) (word
       }
 
   -- what stands for it
-  close_value : (k : Polarity) (l : List ℕ) (b : Arena) → Low b l → (m : ℕ) (d : Arena) → sound table d ≡ true → stand_for words starts k (sort b l) b ≡ ok (m, d) → fold value d m ≡ value (members k) (map (fold value b) l)
+  close_value : (k : Polarity) (l : List ℕ) (b : Arena) → Low b l → (m : ℕ) (d : Arena) → sound table d ≡ true → stand_for words starts k (sort b l) b ≡ Ok (m, d) → fold value d m ≡ value (members k) (map (fold value b) l)
   close_value k l b low m d s e =
       go (ℕ_discrete (length (sort b l)) 1)
       ∙ M.same k (map f (sort b l)) (map f l) (map_within f (sort b l) l (sorted b l).from) (map_within f l (sort b l) (sorted b l).onto)

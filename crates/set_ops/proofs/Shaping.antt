@@ -15,7 +15,8 @@ use native.Mathlib.Omega.{arith}
 use native.Mathlib.Nat.{not-suc-le-zero}
 use native.Mathlib.Decide.{ℕ_discrete}
 use lib.ListN.{length, get_or}
-use Rattle.types.specs.Out.{ok, ◌>>=◌}
+use Rattle.std.specs.Prelude.{Ok}
+use Rattle.types.specs.Out.{◌>>=◌}
 use Rattle.types.specs.Node.{Polarity, Tag, members, Node, node, tag, children}
 use Rattle.types.specs.Arena.{Arena, at, sound, Ext, here}
 use Rattle.types.proofs.Growth.{ext_trans, ext_length, ext_at}
@@ -101,13 +102,13 @@ module _ (table : ℕ) (a : Arena) (g : sound table a ≡ true) (k : Polarity) w
 module _ (words starts table : ℕ) (few : starts ≤ 4096) (u : Arena) (g : sound table u ≡ true) where
   -- what node c becomes is neat
   NeatAt : ℕ → Type 0
-  NeatAt c = (a b : Arena) (m : ℕ) → Ext u a → sound table a ≡ true → normalize words starts u c a ≡ ok (m, b) → Neat b m
+  NeatAt c = (a b : Arena) (m : ℕ) → Ext u a → sound table a ≡ true → normalize words starts u c a ≡ Ok (m, b) → Neat b m
 
   record Ready (c : ℕ) : Type 0 where
     pub low : c < length u
     pub neat : NeatAt c
 
-  step : {c : ℕ} → Ready c → (a b : Arena) (m : ℕ) → Ext u a → sound table a ≡ true → normalize words starts u c a ≡ ok (m, b) → Finished table There (normalize words starts u c) a m b
+  step : {c : ℕ} → Ready c → (a b : Arena) (m : ℕ) → Ext u a → sound table a ≡ true → normalize words starts u c a ≡ Ok (m, b) → Finished table There (normalize words starts u c) a m b
   step {c} R a b m x h e = (normalize_steady words starts table few u g c R.low).is a b m x h e
 
   -- the children of a node that is no list
@@ -117,14 +118,14 @@ module _ (words starts table : ℕ) (few : starts ≤ 4096) (u : Arena) (g : sou
     pub low : (x : ℕ) → Mem x ms → x < length b
     pub all : (x : ℕ) → Mem x ms → Neat b x
 
-  each_neat : (cs : List ℕ) → ((c : ℕ) → Mem c cs → Ready c) → (a b : Arena) (ms : List ℕ) → Ext u a → sound table a ≡ true → each (normalize words starts u) cs a ≡ ok (ms, b) → Rebuilt a ms b
+  each_neat : (cs : List ℕ) → ((c : ℕ) → Mem c cs → Ready c) → (a b : Arena) (ms : List ℕ) → Ext u a → sound table a ≡ true → each (normalize words starts u) cs a ≡ Ok (ms, b) → Rebuilt a ms b
   unfolding each NeatAt
   each_neat [] h a b ms x s e =
       subst (λ (v : List ℕ × Arena). Rebuilt a v.0 v.1) (ok_same e) (record { ext = here; good = s; low = λ y i. absurd (not-nil i); all = λ y i. absurd (not-nil i) })
   each_neat (c ∷ cs) h a b ms x s e =
       let f = normalize words starts u in
-      let p = bind_parts (f c a) (λ r. each f cs r.1 >>= λ q. ok (r.0 ∷ q.0, q.1)) e in
-      let q = bind_parts (each f cs p.0.1) (λ q. ok (p.0.0 ∷ q.0, q.1)) p.2 in
+      let p = bind_parts (f c a) (λ r. each f cs r.1 >>= λ q. Ok (r.0 ∷ q.0, q.1)) e in
+      let q = bind_parts (each f cs p.0.1) (λ q. Ok (p.0.0 ∷ q.0, q.1)) p.2 in
       let F = step (h c (head refl)) a p.0.1 p.0.0 x s p.1 in
       let N = (h c (head refl)).neat a p.0.1 p.0.0 x s p.1 in
       let T = each_neat cs (λ d i. h d (tail i)) p.0.1 q.0.1 q.0.0 (ext_trans x F.ext) F.good q.1 in
@@ -146,7 +147,7 @@ module _ (words starts table : ℕ) (few : starts ≤ 4096) (u : Arena) (g : sou
     pub all : (x : ℕ) → Mem x l → Member b k x
 
   flatten_neat : (k : Polarity) (cs : List ℕ) → ((c : ℕ) → Mem c cs → Ready c) → (acc : List ℕ) (a b : Arena) (l : List ℕ) → Ext u a → sound table a ≡ true → Different acc → ((x : ℕ) → Mem x acc → Member a k x)
-      → flatten_set_op k (normalize words starts u) acc cs a ≡ ok (l, b) → Flattened k a l b
+      → flatten_set_op k (normalize words starts u) acc cs a ≡ Ok (l, b) → Flattened k a l b
   unfolding flatten_set_op NeatAt
   flatten_neat k [] h acc a b l x s D M e = subst (λ (v : List ℕ × Arena). Flattened k a v.0 v.1) (ok_same e) (record { ext = here; good = s; different = D; all = M })
   flatten_neat k (c ∷ cs) h acc a b l x s D M e =
@@ -162,7 +163,7 @@ module _ (words starts table : ℕ) (few : starts ≤ 4096) (u : Arena) (g : sou
       (λ y i. ⊎_elim (λ j. member_kept table a s k d F.ext (M y j)) (brought table d F.good k m F.inside N y) (C.from y i)) q.2 in
       record { ext = ext_trans F.ext T.ext; good = T.good; different = T.different; all = T.all }
 
-  close_neat : (k : Polarity) (a : Arena) (l : List ℕ) (b : Arena) → Flattened k a l b → 0 < length l → (m : ℕ) (d : Arena) → stand_for words starts k (sort b l) b ≡ ok (m, d) → Neat d m
+  close_neat : (k : Polarity) (a : Arena) (l : List ℕ) (b : Arena) → Flattened k a l b → 0 < length l → (m : ℕ) (d : Arena) → stand_for words starts k (sort b l) b ≡ Ok (m, d) → Neat d m
   close_neat k a l b F p m d e = go (ℕ_discrete (length (sort b l)) 1)
     where
       go : Dec (length (sort b l) ≡ 1) → Neat d m

@@ -1,7 +1,6 @@
 -- What is shown of the type that `normalize_set_ops` gives (01, "arena"): its shape, and what it has in common with the type given.
-use Rattle.std.specs.Prelude.{ℕ, ◌<◌, ◌≤◌, ◌≡◌, true, length}
+use Rattle.std.specs.Prelude.{ℕ, ◌<◌, ◌≤◌, ◌≡◌, true, length, Ok}
 use mathlib.Core.List.{List, [], ◌∷◌, ◌++◌, Memᴰ as Mem}
-use Rattle.types.specs.Out.{ok}
 use Rattle.types.specs.Node.{Polarity, Tag, members, tag, children}
 use Rattle.types.specs.Arena.{Arena, at, fold, sound}
 use Rattle.set_op_lists.specs.SetOps.{normalize_set_ops}
@@ -27,7 +26,7 @@ pub data Neat (a : Arena) : ℕ → Type 0 where
 abbrev pub NormalizedNeat : Type 0
 NormalizedNeat =
     (words starts table : ℕ) → starts ≤ 4096 → (a : Arena) → sound table a ≡ true → (root : ℕ) → root < length a → (m : ℕ) (b : Arena)
-    → normalize_set_ops words starts root a ≡ ok (m, b) → Neat b m
+    → normalize_set_ops words starts root a ≡ Ok (m, b) → Neat b m
 
 -- ---- what stays the same
 -- the type of the root was normalized in a sound arena a, lent so many words and starts: it became b, with the root m
@@ -35,7 +34,7 @@ pub record Normalizes (words starts table : ℕ) (a : Arena) (root m : ℕ) (b :
   pub few : starts ≤ 4096
   pub good : sound table a ≡ true
   pub inside : root < length a
-  pub run : normalize_set_ops words starts root a ≡ ok (m, b)
+  pub run : normalize_set_ops words starts root a ≡ Ok (m, b)
 
 -- the value of a member list depends only on the set of its members' values: a list of one has that one's value; order and repeats don't
 -- matter; and a member that is itself a list of the same kind may give way to its own members

@@ -9,15 +9,19 @@ ghost use Rattle.recursion.specs.Inner.Hosted.{Works, WorksLent};
 ghost use Rattle.set_op_lists.specs.SetOps.{normalize_set_ops};
 
 use node_filter::set_all_bits;
-use node_store::added::Interned;
 use recursion::take_back_nodes;
 use set_ops_pass::normalize_set_ops_cached;
-use soundness::{Judged, judge};
-use types::Counters;
+use soundness::judge;
 use types::arc_ty::wide;
+use types::{Counters, Refusal};
 
 // In an arena that is known to be sound and has the root. A refusal leaves the nodes that were added.
-fn normalize_in(words: &mut [u32], starts: &mut [u32], c: Counters, root: u32) -> Interned
+fn normalize_in(
+    words: &mut [u32],
+    starts: &mut [u32],
+    c: Counters,
+    root: u32,
+) -> Result<(u32, Counters), Refusal>
     requires { InRange words.old starts.old c root }
     ensures { Works normalize_set_ops words.old starts.old c root words.new
         starts.new result }
@@ -29,20 +33,25 @@ fn normalize_in(words: &mut [u32], starts: &mut [u32], c: Counters, root: u32) -
 }
 
 // The same for any root; a refusal takes back the nodes that were added.
-fn normalize_lent(words: &mut [u32], starts: &mut [u32], c: Counters, root: u32) -> Interned
+fn normalize_lent(
+    words: &mut [u32],
+    starts: &mut [u32],
+    c: Counters,
+    root: u32,
+) -> Result<(u32, Counters), Refusal>
     requires { Lent words.old starts.old c }
     ensures { WorksLent normalize_set_ops words.old starts.old c root
         words.new starts.new result }
 {
     if wide(root) >= c.nodes {
-        return Interned::Refused(6);
+        return Err(Refusal::NoSuchRoot);
     }
     let r = normalize_in(words, starts, c, root);
-    let Interned::Refused(number) = r else {
+    let Err(refusal) = r else {
         return r;
     };
     take_back_nodes(words, starts, c);
-    Interned::Refused(number)
+    Err(refusal)
 }
 
 // The type of the root with every union and intersection flattened, sorted and without repeats.
@@ -52,13 +61,10 @@ pub fn normalize_set_ops(
     starts: &mut [u32],
     c: Counters,
     root: u32,
-) -> Interned
+) -> Result<(u32, Counters), Refusal>
     ensures { left c result words.new starts.new
         ≡ work_reply normalize_set_ops table.now words.old starts.old c root }
 {
-    let lent = judge(table, words, starts, c);
-    let Judged::Refused(number) = lent else {
-        return normalize_lent(words, starts, c, root);
-    };
-    Interned::Refused(number)
+    judge(table, words, starts, c)?;
+    normalize_lent(words, starts, c, root)
 }

@@ -7,7 +7,9 @@ use native.Mathlib.Numerals.{add-one}
 use native.Mathlib.Decide.{ℕ_discrete}
 use lib.ListN.{length, get_or, take, drop, replicate, drop_of_length-le}
 use lib.Seq.{drop-cons}
-use Rattle.types.specs.Out.{Out, ok, refuse, ◌>>=◌}
+use Rattle.std.specs.Prelude.{Ok, Err}
+use Rattle.types.specs.declared.refusal.Refusal.{Refusal}
+use Rattle.types.specs.Out.{Out, ◌>>=◌}
 use Rattle.types.specs.Kind.{disc}
 use Rattle.types.specs.Node.{Polarity, members, Node, node, tag, kind, children, below}
 use Rattle.types.specs.Arena.{Arena, at, Ext, here}
@@ -17,8 +19,6 @@ use Rattle.types.proofs.Growth.{ext_length, ext_trans, ext_at}
 use Rattle.types.proofs.Memories.{unique}
 use Rattle.types.proofs.Sound.{sound_ext, child_lower}
 use Rattle.node_store.specs.Inner.Stored.{InRange}
-use Rattle.node_store.specs.declared.added.Interned.{Interned}
-use Rattle.node_store.specs.declared.added.Interned.TheVariants as interned
 use Rattle.node_store.proofs.Interning.{done_ext}
 use Rattle.node_store.proofs.Interning as interning
 use Rattle.node_filter.specs.Inner.Filter.{CoversLent, CoversAfter}
@@ -34,8 +34,6 @@ use Rattle.member_lists.proofs.Copying.{room_length}
 use Rattle.member_sorting.specs.Sort.{sort}
 use Rattle.set_op_lists.specs.SetOps.{brings, flatten_set_op, stand_for, normalize}
 use Rattle.set_op_lists.specs.Inner.{brought_out, Bringing, Brings, StandsFor}
-use Rattle.set_op_lists.specs.declared.Brought.{Brought}
-use Rattle.set_op_lists.specs.declared.Brought.TheVariants as brought
 use Rattle.set_op_lists.proofs.Closing.{stand_for_one, stand_for_several}
 use Rattle.set_ops_pass.specs.Inner.{ListReady, MemberCount, MemberThere, MemberAt}
 use Rattle.set_ops_pass.proofs.Normalizing.{Flat, at_list, flat_list, normalize_steady, lawful}
@@ -52,15 +50,15 @@ record Carried (table : ℕ) (a : Arena) (f : ℕ → Job) (size : ℕ) (k : Pol
   pub cache : Cache f size arena entries
   pub is : brings_then k acc g o ≡ g (take next items) arena
 
-module _ {table : ℕ} {a : Arena} {f : ℕ → Job} {size : ℕ} {w s entries : List ℕ} (k : Polarity) {number : ℕ} (q : number ≡ disc (kind (members k))) {items : List ℕ} {held : ℕ} {items' met' : List ℕ} {b : Brought} (g : List ℕ → Arena → Out (List ℕ × Arena)) where
-  stopped : {r : Interned} {o : Out (ℕ × Arena)} → Leads table a f size w s entries r o → Brings w s r number items held items' met' b → {v : ℕ} → b ≡ brought.Refused v → Stopped a w s v (brings_then k (take held items) g o)
+module _ {table : ℕ} {a : Arena} {f : ℕ → Job} {size : ℕ} {w s entries : List ℕ} (k : Polarity) {number : ℕ} (q : number ≡ disc (kind (members k))) {items : List ℕ} {held : ℕ} {items' met' : List ℕ} {b : Out (ℕ × Counters)} (g : List ℕ → Arena → Out (List ℕ × Arena)) where
+  stopped : {r : Out (ℕ × Counters)} {o : Out (ℕ × Arena)} → Leads table a f size w s entries r o → Brings w s r number items held items' met' b → {v : Refusal} → b ≡ Err v → Stopped a w s v (brings_then k (take held items) g o)
   unfolding ◌>>=◌
   stopped (done {m = m} {d = d} {b = c} H E l C) B p =
       let e = (B.node m d refl).is table c k H q in
       record { is = ap (λ (x : Out (List ℕ)). x >>= λ (l : List ℕ). g l c) (sym e ∙ ap (brought_out items') p); stands = stands_ext E (holds_stands H) }
-  stopped (stop {e = e} S) B {v} p = let z : e ≡ v = let y = sym (B.refused e refl) ∙ p in cc in record { is = ap refuse z; stands = S }
+  stopped (stop {e = e} S) B {v} p = let z : e ≡ v = let y = sym (B.refused e refl) ∙ p in cc in record { is = ap Err z; stands = S }
 
-  carried : {r : Interned} {o : Out (ℕ × Arena)} → Leads table a f size w s entries r o → Brings w s r number items held items' met' b → {next : ℕ} {d : Counters} → b ≡ brought.Held next d
+  carried : {r : Out (ℕ × Counters)} {o : Out (ℕ × Arena)} → Leads table a f size w s entries r o → Brings w s r number items held items' met' b → {next : ℕ} {d : Counters} → b ≡ Ok (next, d)
       → Carried table a f size k (take held items) g w s entries items' next d o
   unfolding ◌>>=◌
   carried (done {m = m} {d = e} {b = c} H E l C) B {next} {d} p =
@@ -74,17 +72,17 @@ module _ {table : ℕ} {a : Arena} {f : ℕ → Job} {size : ℕ} {w s entries :
       }
   carried (stop {e = e} S) B p = let y = sym (B.refused e refl) ∙ p in let z : ◌≡◌ {A = ℕ} 0 1 = cc in absurd (omega arith)
 
-  held_growing : {r : Interned} {o : Out (ℕ × Arena)} → Leads table a f size w s entries r o → Brings w s r number items held items' met' b → {next : ℕ} {d : Counters} → b ≡ brought.Held next d → Growing items' next met'
+  held_growing : {r : Out (ℕ × Counters)} {o : Out (ℕ × Arena)} → Leads table a f size w s entries r o → Brings w s r number items held items' met' b → {next : ℕ} {d : Counters} → b ≡ Ok (next, d) → Growing items' next met'
   held_growing (done {m = m} {d = e} H E l C) B {next} {d} p = (B.node m e refl).growing next d p
   held_growing (stop {e = e} S) B p = let y = sym (B.refused e refl) ∙ p in let z : ◌≡◌ {A = ℕ} 0 1 = cc in absurd (omega arith)
 
 -- the counters are those after the member, and the bits of every node are set then
-pub brought_covers : {w s f : List ℕ} {r : Interned} {number : ℕ} {items : List ℕ} {held : ℕ} {items' met' : List ℕ} {b : Brought} → CoversAfter w s r f → Brings w s r number items held items' met' b → {next : ℕ} {d : Counters} → b ≡ brought.Held next d → CoversLent w s d f
+pub brought_covers : {w s f : List ℕ} {r : Out (ℕ × Counters)} {number : ℕ} {items : List ℕ} {held : ℕ} {items' met' : List ℕ} {b : Out (ℕ × Counters)} → CoversAfter w s r f → Brings w s r number items held items' met' b → {next : ℕ} {d : Counters} → b ≡ Ok (next, d) → CoversLent w s d f
 brought_covers {w} {s} {f} {r} C B {next} {d} p = go r refl
   where
-    go : (x : Interned) → r ≡ x → CoversLent w s d f
-    go (interned.Node m e) q = subst (λ (c : Counters). CoversLent w s c f) ((B.node m e q).counters next d p) (C.is m e q)
-    go (interned.Refused e) q = let y = sym (B.refused e q) ∙ p in let z : ◌≡◌ {A = ℕ} 0 1 = cc in absurd (omega arith)
+    go : (x : Out (ℕ × Counters)) → r ≡ x → CoversLent w s d f
+    go (Ok (m, e)) q = subst (λ (c : Counters). CoversLent w s c f) ((B.node m e q).counters next d p) (C.is m e q)
+    go (Err e) q = let y = sym (B.refused e q) ∙ p in let z : ◌≡◌ {A = ℕ} 0 1 = cc in absurd (omega arith)
 
 -- ---- the members in turn
 -- what is known of the turn i in one arena
@@ -181,7 +179,7 @@ module _ {w₀ s₀ : List ℕ} {c₀ : Counters} {n number : ℕ} {entries₀ :
           cache = moved R.source now.cache;
         }
 
-    module _ {w' s' entries' : List ℕ} {r : Interned} (D : Does normalize Grown w s last x entries w' s' entries' r) where
+    module _ {w' s' entries' : List ℕ} {r : Out (ℕ × Counters)} (D : Does normalize Grown w s last x entries w' s' entries' r) where
       pub flat_brings : Bringing w' s' r number items held met
       flat_brings = record {
         side = T.ready.side;
@@ -193,7 +191,7 @@ module _ {w₀ s₀ : List ℕ} {c₀ : Counters} {n number : ℕ} {entries₀ :
         growing = T.growing;
       }
 
-      module _ {items' met' : List ℕ} {b : Brought} (B : Brings w' s' r number items held items' met' b) where
+      module _ {items' met' : List ℕ} {b : Out (ℕ × Counters)} (B : Brings w' s' r number items held items' met' b) where
         module _ {table : ℕ} {u a : Arena} (H : Holds table w₀ s₀ c₀ a) (E : Ext u a) (l : n < length u) (C : Cache (normalize (length w₀) (length s₀) u) (length u) a entries₀) where
           f : ℕ → Job
           f = normalize (length w₀) (length s₀) u
@@ -224,7 +222,7 @@ module _ {w₀ s₀ : List ℕ} {c₀ : Counters} {n number : ℕ} {entries₀ :
           unfolding f
           whole = at_list (length w₀) (length s₀) table u (sound_ext table E H.good) n l a T.ready.side (tag_in H E l)
 
-        pub flat_refused : {v : ℕ} → b ≡ brought.Refused v → Does normalize Grown w₀ s₀ c₀ n entries₀ w' s' entries' (interned.Refused v)
+        pub flat_refused : {v : Refusal} → b ≡ Err v → Does normalize Grown w₀ s₀ c₀ n entries₀ w' s' entries' (Err v)
         unfolding ◌>>=◌ f I rest
         flat_refused {v} q = record {
           is = λ table u a H E l C.
@@ -233,7 +231,7 @@ module _ {w₀ s₀ : List ℕ} {c₀ : Counters} {n number : ℕ} {entries₀ :
               stop_leads (record { is = o; stands = stands_ext (I H E l C).ext S.stands });
         }
 
-        pub flat_more : {m : ℕ} {d : Counters} → b ≡ brought.Held m d → length w' ≡ length w → length s' ≡ length s → FlatTurn w₀ s₀ c₀ n number entries₀ total w' s' entries' items' m met' d (i + 1)
+        pub flat_more : {m : ℕ} {d : Counters} → b ≡ Ok (m, d) → length w' ≡ length w → length s' ≡ length s → FlatTurn w₀ s₀ c₀ n number entries₀ total w' s' entries' items' m met' d (i + 1)
         unfolding f I rest
         flat_more {m} {d} q lw ls = record {
           ready = T.ready;
@@ -261,7 +259,7 @@ module _ {w₀ s₀ : List ℕ} {c₀ : Counters} {n number : ℕ} {entries₀ :
       J : FlatIn table a (normalize (length w₀) (length s₀) u) (length u) T.ready.side (children (at u n)) w s entries items held last i
       J = T.there table u a H E l C
 
-      made : flatten_set_op T.ready.side (normalize (length w₀) (length s₀) u) [] (children (at u n)) a ≡ ok (take held items, J.arena)
+      made : flatten_set_op T.ready.side (normalize (length w₀) (length s₀) u) [] (children (at u n)) a ≡ Ok (take held items, J.arena)
       unfolding flatten_set_op J
       made =
           let none : drop i (children (at u n)) ≡ [] = drop_of_length-le (children (at u n)) {i = i} (omega (arith, h, total_is H E l)) in
@@ -286,14 +284,14 @@ module _ {w₀ s₀ : List ℕ} {c₀ : Counters} {n number : ℕ} {entries₀ :
         }
 
     -- what stands for it grew from the arena that it was made in
-    stand_for_ext : (lw ls : ℕ) (k : Polarity) (l : List ℕ) (a : Arena) (m : ℕ) (d : Arena) → stand_for lw ls k l a ≡ ok (m, d) → Ext a d
+    stand_for_ext : (lw ls : ℕ) (k : Polarity) (l : List ℕ) (a : Arena) (m : ℕ) (d : Arena) → stand_for lw ls k l a ≡ Ok (m, d) → Ext a d
     stand_for_ext lw ls k l a m d e = go (ℕ_discrete (length l) 1)
       where
         go : Dec (length l ≡ 1) → Ext a d
         go (yes q) = subst (Ext a) (ap (λ (z : ℕ × Arena). z.1) (ok_same (sym (stand_for_one lw ls k l a q) ∙ e))) here
         go (no f) = done_ext (interning.done lw ls (node (members k) l) a m d (sym (stand_for_several lw ls k l a f) ∙ e))
 
-    pub flat_done : {w' s' : List ℕ} {r : Interned} → StandsFor w s last number items held w' s' r → length w' ≡ length w → length s' ≡ length s → Does normalize Grown w₀ s₀ c₀ n entries₀ w' s' entries r
+    pub flat_done : {w' s' : List ℕ} {r : Out (ℕ × Counters)} → StandsFor w s last number items held w' s' r → length w' ≡ length w → length s' ≡ length s → Does normalize Grown w₀ s₀ c₀ n entries₀ w' s' entries r
     unfolding ◌>>=◌ J
     flat_done {w'} {s'} {r} S lw ls = record {
       is = λ table u a H E l C.

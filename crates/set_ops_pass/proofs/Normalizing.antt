@@ -12,7 +12,9 @@ use mathlib.Core.Option.{Option, none, some}
 use native.Mathlib.Omega.{arith}
 use native.Mathlib.Decide.{ℕ_discrete}
 use lib.ListN.{length, get_or}
-use Rattle.types.specs.Out.{Out, ok, refuse, ◌>>=◌}
+use Rattle.std.specs.Prelude.{Ok, Err}
+use Rattle.types.specs.declared.refusal.Refusal.TheVariants as refusal
+use Rattle.types.specs.Out.{Out, ◌>>=◌}
 use Rattle.types.specs.Node.{Polarity, Tag, members, Node, node, tag, children, below, formed}
 use Rattle.types.specs.Arena.{Arena, at, sound, Ext, here, more}
 use Rattle.types.proofs.Lists.{below_at, below_more}
@@ -70,7 +72,7 @@ pub record Flat (least : ℕ) (l : List ℕ) (a : Arena) : Type 0 where
 flat_later : {least : ℕ} {l : List ℕ} {a b : Arena} → Ext a b → Flat least l a → Flat least l b
 flat_later {l = l} {a} {b} x F = record { low = below_more (length a) (length b) l (ext_length a b x) F.low; few = F.few; some = F.some }
 
-flat_more : (table : ℕ) (a : Arena) → sound table a ≡ true → (k : Polarity) (m : ℕ) → m < length a → (least : ℕ) (acc l : List ℕ) → below (length a) acc ≡ true → length acc ≤ 64 → first_copies acc (brings k m (at a m)) ≡ ok l → Flat (suc least) l a
+flat_more : (table : ℕ) (a : Arena) → sound table a ≡ true → (k : Polarity) (m : ℕ) → m < length a → (least : ℕ) (acc l : List ℕ) → below (length a) acc ≡ true → length acc ≤ 64 → first_copies acc (brings k m (at a m)) ≡ Ok l → Flat (suc least) l a
 flat_more table a g k m h least acc l low few e =
     let C = copies acc (brings k m (at a m)) l e in
     let B = brought table a g k m h in
@@ -99,10 +101,10 @@ module _ (table : ℕ) (k : Polarity) (f : ℕ → Job) where
 
       go : (m : ℕ) (a : Arena) → Ext start a → sound table a ≡ true → m < length a → (o : Out (List ℕ)) → first_copies acc (brings k m (at a m)) ≡ o
           → ((x : List ℕ) → below (length a) x ≡ true → length x ≤ 64 → (0 < least → 0 < length x + length cs) → ((d : ℕ) → Mem d cs → Steady table a There (f d)) → Steady table a (Flat least) (flatten_set_op k f x cs)) → Steady table a (Flat least) (follow acc cs m)
-      go m a e g l (ok x) q ih =
+      go m a e g l (Ok x) q ih =
           let F = flat_more table a g k m l 0 acc x (below_more (length start) (length a) acc (ext_length start a e) low) few q in
           steady_as (follow acc cs m) (flatten_set_op k f x cs) (kept m a l q) (ih x F.low F.few (λ z. let p = F.some (omega arith) in omega (arith, p)) (λ d i. steady_later e (h d (tail i))))
-      go m a e g l (refuse n) q ih = steady_as (follow acc cs m) (λ (b : Arena). refuse n) (kept m a l q) (refusal_steady n)
+      go m a e g l (Err n) q ih = steady_as (follow acc cs m) (λ (b : Arena). Err n) (kept m a l q) (refusal_steady n)
 
 -- ---- what stands for it
 module _ (words starts table : ℕ) (few : starts ≤ 4096) (k : Polarity) (l : List ℕ) (a : Arena) (F : Flat 1 l a) where
@@ -122,7 +124,7 @@ module _ (words starts table : ℕ) (few : starts ≤ 4096) (k : Polarity) (l : 
       go : Dec (length (sort a l) ≡ 1) → Steady table a There (λ (b : Arena). stand_for words starts k (sort b l) b)
       go (yes e) =
           let m = get_or (sort a l) 0 0 in
-          steady_as (λ (b : Arena). stand_for words starts k (sort b l) b) (λ (b : Arena). ok (m, b)) (λ b x. closes b x ∙ stand_for_one words starts k (sort a l) b e)
+          steady_as (λ (b : Arena). stand_for words starts k (sort b l) b) (λ (b : Arena). Ok (m, b)) (λ b x. closes b x ∙ stand_for_one words starts k (sort a l) b e)
           (answer_steady a m (λ b x. let h = below_at (length a) (sort a l) low_sorted 0 (omega (arith, e)) in omega (arith, h, ext_length a b x)))
       go (no f) =
           steady_as (λ (b : Arena). stand_for words starts k (sort b l) b) (intern words starts (node (members k) (sort a l))) (λ b x. closes b x ∙ stand_for_several words starts k (sort a l) b f)
@@ -148,7 +150,7 @@ module _ (words starts : ℕ) where
   module _ (table : ℕ) (u : Arena) (g : sound table u ≡ true) (n : ℕ) (l : n < length u) (b : Arena) where
     at_step : normalize words starts u n b ≡ set_ops_step words starts (before u n l).older (at u n) (normalize words starts (before u n l).older) b
     unfolding normalize
-    at_step = λ i. rec_at (set_ops_step words starts) (λ a. refuse 6) u n l i b
+    at_step = λ i. rec_at (set_ops_step words starts) (λ a. Err refusal.NoSuchRoot) u n l i b
 
     -- the jobs of its children
     jobs : (c : ℕ) → Mem c (children (at u n)) → normalize words starts (before u n l).older c ≡ normalize words starts u c
@@ -156,7 +158,7 @@ module _ (words starts : ℕ) where
     jobs c k =
         let B = before u n l in
         let j = index_of k in
-        sym (ext_rec (set_ops_step words starts) (λ a. refuse 6) B.older u (ext_tail B.ext) c (omega (arith, j.is, B.count, child_lower table u g n l j.index j.inside)))
+        sym (ext_rec (set_ops_step words starts) (λ a. Err refusal.NoSuchRoot) B.older u (ext_tail B.ext) c (omega (arith, j.is, B.count, child_lower table u g n l j.index j.inside)))
 
     pub at_other : list_kind (tag (at u n)) ≡ none → normalize words starts u n b ≡ rebuild words starts (tag (at u n)) (children (at u n)) (normalize words starts u) b
     at_other e =
@@ -190,7 +192,7 @@ module _ (words starts : ℕ) where
 
     pub normalize_steady : (u : Arena) → sound table u ≡ true → (n : ℕ) → n < length u → Steady table u There (normalize words starts u n)
     unfolding normalize
-    normalize_steady u g n l = rec_steady table table (λ (v : Job) (i : Unit {0}). v) (set_ops_step words starts) (λ a. refuse 6) (λ (s : Arena). s) (λ x s. more x here) step_steady u g n l tt
+    normalize_steady u g n l = rec_steady table table (λ (v : Job) (i : Unit {0}). v) (set_ops_step words starts) (λ a. Err refusal.NoSuchRoot) (λ (s : Arena). s) (λ x s. more x here) step_steady u g n l tt
 
     -- the list that the members of node n make
     pub flat_list : (u : Arena) → sound table u ≡ true → (n : ℕ) → n < length u → (k : Polarity) → tag (at u n) ≡ members k → Steady table u (Flat 1) (flatten_set_op k (normalize words starts u) [] (children (at u n)))

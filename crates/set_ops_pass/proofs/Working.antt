@@ -8,7 +8,10 @@ use lib.ListN.{length, get_or, take}
 use lib.Seq.{length-take-le}
 use lib.Dec.{eqb}
 use borrow.Author.Tests.{not-true, not-false}
+use Rattle.std.specs.Prelude.{Ok, Err}
 use Rattle.words.specs.Words.{child}
+use Rattle.types.specs.declared.refusal.Refusal.{Refusal}
+use Rattle.types.specs.Out.{Out}
 use Rattle.types.specs.Kind.{disc}
 use Rattle.types.specs.Node.{Tag, Node, node, tag, kind, children, encode, below}
 use Rattle.types.specs.Arena.{Arena, at}
@@ -22,8 +25,6 @@ use Rattle.types.proofs.Memories.{unique}
 use Rattle.types.proofs.Sound.{sound_ext, at_formed, children_below}
 use Rattle.node_store.specs.Inner.Stored.{InRange, NodeAt}
 use Rattle.node_store.specs.Intern.{intern}
-use Rattle.node_store.specs.declared.added.Interned.{Interned}
-use Rattle.node_store.specs.declared.added.Interned.TheVariants as interned
 use Rattle.node_store.specs.Inner.Children.{ChildWords}
 use Rattle.node_reading.specs.Inner.{KindAt}
 use Rattle.node_store.proofs.Offspring.{as_many, child_is}
@@ -32,8 +33,6 @@ use Rattle.rebuilding.specs.Inner.Children.{AllChildren}
 use Rattle.rebuilding.specs.Inner.Rebuilt.{Rebuilding, Rebuilds}
 use Rattle.rebuilding.specs.declared.children.Children.{Children}
 use Rattle.recursion.specs.Inner.Work.{Grown, Ready, Does, EachReady, DoesEach}
-use Rattle.recursion.specs.declared.Run.{Run}
-use Rattle.recursion.specs.declared.Run.TheVariants as run
 use Rattle.recursion.proofs.Leading.{each_done}
 use Rattle.recursion.proofs.Turns.{Turn, turn_falls}
 use Rattle.recursion.proofs.Nodes.{Rebuilt, InternsAs, node_refused, node_done}
@@ -65,7 +64,7 @@ member_inside M e N B = let L = M.range.lent in omega (arith, M.inside, as_many 
 pub member_is : {w s : List ℕ} {c : Counters} {n i x : ℕ} → MemberThere w s c n i → x ≡ n → {ws b : List ℕ} → NodeAt w s c x ws → ChildWords ws b → {r : ℕ} → r ≡ child (get_or b i 0) → MemberAt w s c n i r
 member_is {i = i} M e N B q = member_read M.range e N B i q
 
-interns_as : {w s : List ℕ} {c : Counters} {n : ℕ} {items : List ℕ} {count : ℕ} {w' s' : List ℕ} {r : Interned} → Rebuilds w s c n items count w' s' r → InternsAs Grown (λ t. t) w s c n items count w' s' r
+interns_as : {w s : List ℕ} {c : Counters} {n : ℕ} {items : List ℕ} {count : ℕ} {w' s' : List ℕ} {r : Out (ℕ × Counters)} → Rebuilds w s c n items count w' s' r → InternsAs Grown (λ t. t) w s c n items count w' s' r
 interns_as {w} {s} {c} {n} {items} {count} R = record {
   is = λ table u a H E l. R.is table a H ∙ ap (λ (y : Node). reply_of w s c (intern (length w) (length s) (node (tag y) (take count items)) a)) (ext_at u a E n l);
 }
@@ -111,7 +110,7 @@ module _ {w s : List ℕ} {c : Counters} {n : ℕ} {entries : List ℕ} (P : Rea
         let X = L.is P.table P.view P.holds in
         record { ready = P; long = X.long; few = X.few; low = ap (below n) X.is ∙ children_below P.table P.view P.holds.good n (omega (arith, inside, P.holds.nodes)) }
 
-    module _ {w' s' items' entries' : List ℕ} {g : Run} (E : DoesEach normalize Grown w s c n r.items r.count entries w' s' items' entries' g) {d : Counters} (q : g ≡ run.Went d) where
+    module _ {w' s' items' entries' : List ℕ} {g : Out Counters} (E : DoesEach normalize Grown w s c n r.items r.count entries w' s' items' entries' g) {d : Counters} (q : g ≡ Ok d) where
       pub rebuilding : Rebuilding w' s' d n items' r.count
       rebuilding =
           let D = each_done (E.is P.table P.source P.view P.holds P.beside P.inside P.cache) q in
@@ -137,10 +136,10 @@ module _ {w s : List ℕ} {c : Counters} {n : ℕ} {entries : List ℕ} (O : Oth
         (ap (λ (y : Node). list_kind (tag y)) (sym (ext_at u a E n l)) ∙ ap (λ (d : Arena). list_kind (tag (at d n))) (unique H O.ready.holds) ∙ O.other);
   }
 
-  module _ {w' s' items' entries' : List ℕ} {g : Run} (E : DoesEach normalize Grown w s c n r.items r.count entries w' s' items' entries' g) where
-    pub other_refused : {v : ℕ} → g ≡ run.Refused v → Does normalize Grown w s c n entries w' s' entries' (interned.Refused v)
+  module _ {w' s' items' entries' : List ℕ} {g : Out Counters} (E : DoesEach normalize Grown w s c n r.items r.count entries w' s' items' entries' g) where
+    pub other_refused : {v : Refusal} → g ≡ Err v → Does normalize Grown w s c n entries w' s' entries' (Err v)
     other_refused q = node_refused lawful other_rebuilt E q
 
-    pub other_done : {d : Counters} → g ≡ run.Went d → {w'' s'' : List ℕ} {i : Interned} → Rebuilds w' s' d n items' r.count w'' s'' i → length w' ≡ length w → length s' ≡ length s → length w'' ≡ length w' → length s'' ≡ length s'
+    pub other_done : {d : Counters} → g ≡ Ok d → {w'' s'' : List ℕ} {i : Out (ℕ × Counters)} → Rebuilds w' s' d n items' r.count w'' s'' i → length w' ≡ length w → length s' ≡ length s → length w'' ≡ length w' → length s'' ≡ length s'
         → Does normalize Grown w s c n entries w'' s'' entries' i
     other_done q B lw ls lw' ls' = node_done lawful other_rebuilt E q (interns_as B) lw ls lw' ls'

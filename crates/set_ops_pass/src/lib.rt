@@ -10,15 +10,14 @@ ghost use Rattle.set_ops_pass.specs.Inner.{ListReady, OtherReady, MemberCount, M
 
 use member_lists::Members;
 use node_reading::nodes::kind_at;
-use node_store::added::Interned;
 use node_store::children::child_words;
 use node_store::stored::node_at;
 use rebuilding::children::all_children;
 use rebuilding::node::rebuild;
-use recursion::{Run, cached, item_at, remember};
-use set_op_lists::{Brought, bring, close_list};
-use types::Counters;
+use recursion::{cached, item_at, remember};
+use set_op_lists::{bring, close_list};
 use types::arc_ty::{Head, child, wide};
+use types::{Counters, Refusal};
 
 // How many members the list n has.
 fn member_count(words: &[u32], starts: &[u32], c: Counters, n: u32) -> usize
@@ -46,7 +45,7 @@ pub fn normalize_set_ops_cached(
     n: u32,
     cache: &mut [u32; 4096],
     filter: &mut [u64; 2048],
-) -> Interned
+) -> Result<(u32, Counters), Refusal>
     requires ready { Ready normalize Grown words.old starts.old c n cache.old }
     requires covers_lent { CoversLent words.old starts.old c filter.old }
     ensures does { Does normalize Grown words.old starts.old c n cache.old words.new
@@ -55,14 +54,14 @@ pub fn normalize_set_ops_cached(
 {
     let hit = cached(cache, n);
     if hit != 0 {
-        return Interned::Node(hit - 1, c);
+        return Ok((hit - 1, c));
     }
     let r = normalize_set_ops_uncached(words, starts, c, n, cache, filter);
-    let Interned::Node(m, d) = r else {
+    let Ok((m, d)) = r else {
         return r;
     };
     remember(cache, n, m);
-    Interned::Node(m, d)
+    Ok((m, d))
 }
 
 // The same, worked out. Lists come last, and any other node has a function of its own, so that LLVM makes one small frame of all
@@ -75,7 +74,7 @@ fn normalize_set_ops_uncached(
     n: u32,
     cache: &mut [u32; 4096],
     filter: &mut [u64; 2048],
-) -> Interned
+) -> Result<(u32, Counters), Refusal>
     requires ready { Ready normalize Grown words.old starts.old c n cache.old }
     requires covers_lent { CoversLent words.old starts.old c filter.old }
     ensures does { Does normalize Grown words.old starts.old c n cache.old words.new
@@ -99,7 +98,7 @@ fn normalize_children(
     n: u32,
     cache: &mut [u32; 4096],
     filter: &mut [u64; 2048],
-) -> Interned
+) -> Result<(u32, Counters), Refusal>
     requires other_ready { OtherReady words.old starts.old c n cache.old }
     requires covers_lent { CoversLent words.old starts.old c filter.old }
     ensures does { Does normalize Grown words.old starts.old c n cache.old words.new
@@ -108,10 +107,7 @@ fn normalize_children(
 {
     let mut list = all_children(words, starts, c, n);
     let count = list.count;
-    let r = normalize_each(words, starts, c, n, &mut list.items, count, cache, filter);
-    let Run::Went(d) = r else {
-        return Interned::Refused(r.refusal());
-    };
+    let d = normalize_each(words, starts, c, n, &mut list.items, count, cache, filter)?;
     rebuild(words, starts, d, n, &list.items, count, filter)
 }
 
@@ -125,7 +121,7 @@ fn flatten_set_op_cached(
     kind: u32,
     cache: &mut [u32; 4096],
     filter: &mut [u64; 2048],
-) -> Interned
+) -> Result<(u32, Counters), Refusal>
     requires list_ready { ListReady words.old starts.old c n kind cache.old }
     requires covers_lent { CoversLent words.old starts.old c filter.old }
     ensures does { Does normalize Grown words.old starts.old c n cache.old words.new
@@ -139,18 +135,13 @@ fn flatten_set_op_cached(
     };
     let mut met = [0u64; 64];
     let mut last = c;
-    let mut i = 0;
-    while i < total {
+    for i in 0..total {
         let member = member_at(words, starts, last, n, i);
         let r = normalize_set_ops_cached(words, starts, last, member, cache, filter);
         let held = list.count;
-        let b = bring(words, starts, r, kind, &mut list.items, &mut met, held);
-        let Brought::Held(next, d) = b else {
-            return Interned::Refused(b.refusal());
-        };
+        let (next, d) = bring(words, starts, r, kind, &mut list.items, &mut met, held)?;
         list.count = next;
         last = d;
-        i += 1;
     }
     let held = list.count;
     close_list(words, starts, last, kind, &list.items, held, n, filter)
@@ -167,7 +158,7 @@ fn normalize_each(
     count: usize,
     cache: &mut [u32; 4096],
     filter: &mut [u64; 2048],
-) -> Run
+) -> Result<Counters, Refusal>
     requires each_ready { EachReady normalize Grown words.old starts.old c n items.old count cache.old }
     requires covers_lent { CoversLent words.old starts.old c filter.old }
     ensures does_each { DoesEach normalize Grown words.old starts.old c n items.old count cache.old
@@ -175,16 +166,11 @@ fn normalize_each(
     ensures covers_run { CoversRun words.new starts.new result filter.new }
 {
     let mut last = c;
-    let mut i = 0;
-    while i < count {
+    for i in 0..count {
         let item = item_at(items, i);
-        let r = normalize_set_ops_cached(words, starts, last, item, cache, filter);
-        let Interned::Node(m, d) = r else {
-            return Run::Refused(r.refusal());
-        };
+        let (m, d) = normalize_set_ops_cached(words, starts, last, item, cache, filter)?;
         items[i] = m;
         last = d;
-        i += 1;
     }
-    Run::Went(last)
+    Ok(last)
 }

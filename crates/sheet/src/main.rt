@@ -8,6 +8,7 @@ use std::io;
 use std::io::Write;
 
 fn main(rt: HostRuntime) -> io::Result<()> {
+    // Arrays: `sheet_line` takes the line as one, and a `Vec` could run out of memory, a way to fail that this program doesn't have.
     let mut input = [0u8; 65537];
     let mut line = [0u8; 65544];
     let got = read_full(&mut rt.reader(), &mut input)?;

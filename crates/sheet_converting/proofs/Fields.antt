@@ -11,7 +11,8 @@ use borrow.Author.Tests.{lt-ltb, le-ltb, ltb-false}
 use Rattle.words.specs.Words.{bit, head_word, field_word}
 use Rattle.words.specs.declared.Layout.TheVariants as layout
 use Rattle.words.proofs.Words.{old_is_new}
-use Rattle.types.specs.Out.{refuse}
+use Rattle.std.specs.Prelude.{Err}
+use Rattle.types.specs.declared.refusal.Refusal.TheVariants as refusal
 use Rattle.types.specs.Kind.{body_count}
 use Rattle.types.specs.Node.{Field, field, primitive, list, lambda, attrset, named, Tag, members, bound, var, neg, form, Node, node, tag, children, kind, data_of, field_names, names, child_words_in, child_words, head_of, encode_in, encode, below, formed_in, linked, well, decode}
 use Rattle.types.proofs.Tests.{true_false, and_true, both}
@@ -172,7 +173,7 @@ high_unlinked table nodes (form (attrset fs d o)) cs h e = and_false (below node
 high_unlinked table nodes (form (named n)) cs h e = and_false (below nodes cs) (high_missing table (field false n ∷ []) h e)
 
 -- so today's rules refuse the old words of a node with a name above 0 by 4
-pub decode_high : (table nodes : ℕ) (x : Node) → table ≤ 256 → formed_in layout.Old x ≡ true → below 1 (names (tag x)) ≡ false → decode table nodes (encode_in layout.Old x) ≡ refuse 4
+pub decode_high : (table nodes : ℕ) (x : Node) → table ≤ 256 → formed_in layout.Old x ≡ true → below 1 (names (tag x)) ≡ false → decode table nodes (encode_in layout.Old x) ≡ Err refusal.OutOfRange
 decode_high table nodes (node t cs) h e n =
     decode_four_in layout.New table nodes (encode_in layout.Old (node t cs)) (node (high_tag t) cs)
     (parts_formed (high_tag t) cs (high_formed t cs (formed_parts_in layout.Old t cs e)))

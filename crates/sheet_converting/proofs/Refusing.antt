@@ -8,7 +8,9 @@ use lib.ListN.{length}
 use lib.Seq.{take_all}
 use borrow.Author.Tests.{le-leb}
 use Rattle.words.specs.declared.Layout.TheVariants as layout
-use Rattle.types.specs.Out.{Out, ok, refuse, ◌>>=◌}
+use Rattle.std.specs.Prelude.{Ok, Err}
+use Rattle.types.specs.declared.refusal.Refusal.TheVariants as refusal
+use Rattle.types.specs.Out.{Out, ◌>>=◌}
 use Rattle.types.specs.Node.{Node, tag, names, encode_in, below}
 use Rattle.types.specs.Arena.{Arena, sound}
 use Rattle.types.specs.Memory.{flat_in, flat}
@@ -52,16 +54,16 @@ flat_same (x ∷ s) e =
 
 -- ---- some name above 0
 module _ (lw ls table : ℕ) (few : table ≤ 256) where
-  node_four : (x : Node) (s : Arena) (rest : List ℕ) → sound table (x ∷ s) ≡ true → below 1 (names (tag x)) ≡ false → next_node layout.New lw ls table s (words_bytes (encode_in layout.Old x) ++ rest) ≡ refuse 4
+  node_four : (x : Node) (s : Arena) (rest : List ℕ) → sound table (x ∷ s) ≡ true → below 1 (names (tag x)) ≡ false → next_node layout.New lw ls table s (words_bytes (encode_in layout.Old x) ++ rest) ≡ Err refusal.OutOfRange
   unfolding next_node added
   node_four x s rest h n =
       let f = formed_old table (length s) x few (sound_well table x s h) in
-      ap (λ (o : Out (List ℕ × List ℕ)). o >>= λ (v : List ℕ × List ℕ). added layout.New lw ls table v.0 s >>= λ (b : Arena). ok (b, v.1)) (words_read layout.Old x f rest)
-      ∙ ap (λ (o : Out Node). (o >>= placed lw ls s) >>= λ (b : Arena). ok (b, rest)) (decode_high table (length s) x few f n)
+      ap (λ (o : Out (List ℕ × List ℕ)). o >>= λ (v : List ℕ × List ℕ). added layout.New lw ls table v.0 s >>= λ (b : Arena). Ok (b, v.1)) (words_read layout.Old x f rest)
+      ∙ ap (λ (o : Out Node). (o >>= placed lw ls s) >>= λ (b : Arena). Ok (b, rest)) (decode_high table (length s) x few f n)
 
   -- the nodes before it are read as they were
   abbrev Four : Node → Arena → ℕ → List ℕ → Type 0
-  Four x s k rest = nodes layout.New lw ls table (length s + suc k) [] (words_bytes (flat_in layout.Old s) ++ (words_bytes (encode_in layout.Old x) ++ rest)) ≡ refuse 4
+  Four x s k rest = nodes layout.New lw ls table (length s + suc k) [] (words_bytes (flat_in layout.Old s) ++ (words_bytes (encode_in layout.Old x) ++ rest)) ≡ Err refusal.OutOfRange
 
   first_four : (x : Node) (s : Arena) (k : ℕ) (rest : List ℕ) → sound table (x ∷ s) ≡ true → has_room lw ls (x ∷ s) ≡ true → first_name_only s ≡ true → below 1 (names (tag x)) ≡ false → Four x s k rest
   unfolding nodes
@@ -79,7 +81,7 @@ module _ (lw ls table : ℕ) (few : table ≤ 256) where
       go false p = refl
       go true p = sym (λ i. p i && q i) ∙ e
 
-  nodes_four : (a : Arena) (k : ℕ) (rest : List ℕ) → sound table a ≡ true → has_room lw ls a ≡ true → first_name_only a ≡ false → nodes layout.New lw ls table (length a + k) [] (words_bytes (flat_in layout.Old a) ++ rest) ≡ refuse 4
+  nodes_four : (a : Arena) (k : ℕ) (rest : List ℕ) → sound table a ≡ true → has_room lw ls a ≡ true → first_name_only a ≡ false → nodes layout.New lw ls table (length a + k) [] (words_bytes (flat_in layout.Old a) ++ rest) ≡ Err refusal.OutOfRange
   unfolding flat_in first_name_only
   nodes_four [] k rest h r e = absurd (true_false e)
   nodes_four (x ∷ s) k rest h r e =
@@ -97,7 +99,7 @@ module _ (sh : Sheet) (G : GoodSheet layout.Old sh) (e : first_name_only sh.aren
   counts : Opening
   counts = record { names = length sh.names; nodes = length sh.arena; root = sh.root }
 
-  contents_four : contents layout.New counts (table sh.names ++ words_bytes (flat_in layout.Old sh.arena)) ≡ refuse 4
+  contents_four : contents layout.New counts (table sh.names ++ words_bytes (flat_in layout.Old sh.arena)) ≡ Err refusal.OutOfRange
   unfolding contents after_names counts ◌>>=◌
   contents_four =
       let R = good_rules layout.Old sh.names G.table in
@@ -105,11 +107,11 @@ module _ (sh : Sheet) (G : GoodSheet layout.Old sh) (e : first_name_only sh.aren
       let z : length sh.arena ≡ length sh.arena + 0 = omega arith in
       rw (contents, le-leb (length sh.names) 4096 (omega (arith, R.few)))
       (ap (λ (o : Out (List Name × List ℕ)). o >>= after_names layout.New counts) (names_back sh.names ws R.good R.rises)
-      ∙ ap (λ (o : Out (Arena × List ℕ)). o >>= λ (a : Arena × List ℕ). ok (record { names = sh.names; arena = a.0; root = sh.root }, a.1))
+      ∙ ap (λ (o : Out (Arena × List ℕ)). o >>= λ (a : Arena × List ℕ). Ok (record { names = sh.names; arena = a.0; root = sh.root }, a.1))
       ((λ i. nodes layout.New 16384 4096 (length sh.names) (z i) [] (sym (append-nil ws) i))
       ∙ nodes_four 16384 4096 (length sh.names) R.few sh.arena 0 [] G.arena (room sh (good_today G)) e))
 
-  pub read_four : read_sheet (sheet_bytes_in layout.Old sh) ≡ refuse 4
+  pub read_four : read_sheet (sheet_bytes_in layout.Old sh) ≡ Err refusal.OutOfRange
   unfolding read_sheet_in front counts ◌>>=◌
   read_four =
       let R = good_rules layout.Old sh.names G.table in

@@ -7,7 +7,9 @@ use mathlib.Core.List.{List, [], ◌∷◌, ◌++◌}
 use native.Mathlib.Omega.{arith}
 use lib.ListN.{length}
 use Rattle.words.specs.declared.Layout.TheVariants as layout
-use Rattle.types.specs.Out.{Out, ok, refuse}
+use Rattle.std.specs.Prelude.{Ok, Err}
+use Rattle.types.specs.declared.refusal.Refusal.{Refusal}
+use Rattle.types.specs.Out.{Out}
 use Rattle.types.specs.Node.{below}
 use Rattle.types.specs.Arena.{Arena, sound}
 use Rattle.types.specs.Memory.{flat_in, flat}
@@ -25,10 +27,10 @@ use Rattle.sheet_converting.proofs.Fields.{join, node_changes, formed_old}
 use Rattle.sheet_converting.proofs.Converting.{front, in_parts, in_old_parts}
 use Rattle.sheet_converting.proofs.Refusing.{good_today, flat_same, read_four}
 
-written : (b : List ℕ) (sh : Sheet) → below 256 b ≡ true → read_sheet_in layout.Old b ≡ ok sh → WrittenAs layout.Old b sh
+written : (b : List ℕ) (sh : Sheet) → below 256 b ≡ true → read_sheet_in layout.Old b ≡ Ok sh → WrittenAs layout.Old b sh
 written = reads_written.accepted layout.Old
 
-converted_is : (b : List ℕ) (sh : Sheet) → read_sheet_in layout.Old b ≡ ok sh → convert_reply b ≡ reply (ok (length (sheet_bytes sh))) (sheet_bytes sh)
+converted_is : (b : List ℕ) (sh : Sheet) → read_sheet_in layout.Old b ≡ Ok sh → convert_reply b ≡ reply (Ok (length (sheet_bytes sh))) (sheet_bytes sh)
 unfolding convert_reply
 converted_is b sh e = ap (converting b) e
 
@@ -37,7 +39,7 @@ converted_reads b sh small e =
     let W = written b sh small e in
     let l : length (sheet_bytes sh) ≡ length b = omega (arith, ap length W.bytes, sheet_length layout.Old sh) in
     record {
-      is = converted_is b sh e ∙ ap (λ (n : ℕ). reply (ok n) (sheet_bytes sh)) l;
+      is = converted_is b sh e ∙ ap (λ (n : ℕ). reply (Ok n) (sheet_bytes sh)) l;
       long = l;
       reads = reads_written.read_back sh (good_today W.good);
     }
@@ -63,10 +65,10 @@ unfolding convert_reply
 fields_change b b' n small p = go (read_sheet_in layout.Old b) refl
   where
     go : (o : Out Sheet) → read_sheet_in layout.Old b ≡ o → OnlyFields b b'
-    go (ok sh) e =
+    go (Ok sh) e =
         let q : sheet_bytes sh ≡ b' = let z = sym (converted_is b sh e) ∙ p in cc in
         rw (← q) (changed b sh (written b sh small e))
-    go (refuse m) e =
+    go (Err m) e =
         let z = sym (ap (converting b) e) ∙ p in
         let y : ◌≡◌ {A = ℕ} 0 1 = cc in absurd (omega arith)
 
@@ -75,9 +77,9 @@ pub eleven : (b : List ℕ) → Eleven b
 unfolding convert_reply
 eleven b = record { refused = λ e p. ap (converting b) p; only = λ e b' p. go (read_sheet_in layout.Old b) refl p }
   where
-    go : (o : Out Sheet) → read_sheet_in layout.Old b ≡ o → {e : ℕ} {b' : List ℕ} → converting b o ≡ reply (refuse e) b' → Refused o
-    go (ok sh) e p = let z : ◌≡◌ {A = ℕ} 0 1 = cc in absurd (omega arith)
-    go (refuse m) e p = refused
+    go : (o : Out Sheet) → read_sheet_in layout.Old b ≡ o → {e : Refusal} {b' : List ℕ} → converting b o ≡ reply (Err e) b' → Refused o
+    go (Ok sh) e p = let z : ◌≡◌ {A = ℕ} 0 1 = cc in absurd (omega arith)
+    go (Err m) e p = refused
 
 -- ---- old sheets under today's rules
 pub old_sheets : OldSheets

@@ -1,6 +1,6 @@
 -- Small old sheets, and what is answered and left of each.
-use Rattle.std.specs.Prelude.{List, [], ◌∷◌, ◌++◌, ℕ, length}
-use Rattle.types.specs.Out.{ok, refuse}
+use Rattle.std.specs.Prelude.{List, [], ◌∷◌, ◌++◌, ℕ, length, Ok, Err}
+use Rattle.types.specs.declared.refusal.Refusal.TheVariants as refusal
 use Rattle.display.specs.Reply.{Reply, reply}
 use Rattle.sheet_reading.specs.Worked.{opens, variable, example}
 
@@ -10,10 +10,10 @@ pub record Case : Type 0 where
 
 -- a converted sheet, and a refused one
 abbrev becomes : List ℕ → List ℕ → Case
-becomes old new = record { sheet = old; gives = reply (ok (length new)) new }
+becomes old new = record { sheet = old; gives = reply (Ok (length new)) new }
 
 abbrev stays : List ℕ → Case
-stays old = record { sheet = old; gives = reply (refuse 11) old }
+stays old = record { sheet = old; gives = reply (Err refusal.OldSheetRefused) old }
 
 -- two names, variable 0 and a node with this head and body: an open set with a field and a dynamic part, or a `Named`
 abbrev set_of : List ℕ → List ℕ

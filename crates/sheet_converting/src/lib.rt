@@ -5,28 +5,21 @@
 ghost use Rattle.std.specs.Prelude.{◌≡◌};
 ghost use Rattle.sheet_converting.specs.Convert.{convert_reply, left};
 
-use sheet_reading::{Reading, read_sheet};
+use sheet_reading::read_sheet;
 use sheet_writing::write_words;
+use types::Refusal;
 use words::Layout;
 
-// That the sheet is converted, or the number of a refusal.
-#[derive(Clone, Copy)]
-pub enum Converted {
-    Sheet,
-    Refused(u32),
-}
-
 // Reads the sheet by the old rules, and writes the words of its nodes, in the new layout, over those that it has.
-pub fn convert_sheet(sheet: &mut [u8]) -> Converted
+pub fn convert_sheet(sheet: &mut [u8]) -> Result<(), Refusal>
     ensures { left result sheet.new ≡ convert_reply sheet.old }
 {
     let mut words = [0u32; 16384];
     let mut starts = [0u32; 4096];
-    let reading = read_sheet(Layout::Old, sheet, &mut words, &mut starts);
-    let Reading::Sheet(end, c, _) = reading else {
-        return Converted::Refused(11);
+    let Ok(old) = read_sheet(Layout::Old, sheet, &mut words, &mut starts) else {
+        return Err(Refusal::OldSheetRefused);
     };
-    let used = c.words;
-    write_words(&words[..used], sheet, end);
-    Converted::Sheet
+    let used = old.counters.words;
+    write_words(&words[..used], sheet, old.end);
+    Ok(())
 }

@@ -1,7 +1,8 @@
 -- What the functions that find and write a sheet's line ask and answer. What words, starts and text hold after is free, but for the text of
 -- an answer.
-use Rattle.std.specs.Prelude.{ℕ, ◌<◌, ◌≤◌, ◌≡◌, List, length, take}
-use Rattle.types.specs.Out.{Out, ok, refuse}
+use Rattle.std.specs.Prelude.{ℕ, ◌<◌, ◌≤◌, ◌≡◌, List, length, take, Ok, Err}
+use Rattle.types.specs.declared.refusal.Refusal.{Refusal}
+use Rattle.types.specs.Out.{Out}
 use Rattle.types.specs.Memory.{Holds}
 use Rattle.types.specs.declared.Counters.{Counters}
 use Rattle.names.specs.Table.{IsTable}
@@ -9,14 +10,13 @@ use Rattle.sheet_reading.specs.Sheet.{Sheet}
 use Rattle.sheet_reading.specs.Inner.Reading.{Blank}
 use Rattle.sheet_format.specs.Line.{Outcome, sheet_type, sheet_answer}
 use Rattle.sheet_format.specs.declared.Answer.{Answer}
-use Rattle.sheet_format.specs.declared.Answer.TheVariants as answer
 
--- the enum's cases: root, passes and the length of the text, which stands first in the lent bytes; the number of a refusal.
+-- an answer: root, passes and the length of the text, which stands first in the lent bytes; or a refusal.
 -- A root has at most four digits and the passes have one
-pub data Gives (text : List ℕ) : Answer → Out Outcome → Type 0 where
+pub data Gives (text : List ℕ) : Out Answer → Out Outcome → Type 0 where
   type : {root passes n : ℕ} → root < 10000 → passes < 10 → n ≤ 65536 → n ≤ length text
-      → Gives text (answer.Type root passes n) (ok (record { root = root; passes = passes; text = take n text }))
-  refused : {e : ℕ} → Gives text (answer.Refused e) (refuse e)
+      → Gives text (Ok (record { root = root; passes = passes; length = n })) (Ok (record { root = root; passes = passes; text = take n text }))
+  refused : {e : Refusal} → Gives text (Err e) (Err e)
 
 -- memory holds the arena of a sheet, whose table is t, and is of full size
 pub record SheetIn (t w s : List ℕ) (c : Counters) (root : ℕ) (text : List ℕ) : Type 0 where
@@ -28,7 +28,7 @@ pub record SheetIn (t w s : List ℕ) (c : Counters) (root : ℕ) (text : List �
   pub all_starts : length s ≡ 4096
   pub all_text : length text ≡ 65536
 
-pub record AnswersType (t w s : List ℕ) (c : Counters) (root : ℕ) (text : List ℕ) (r : Answer) : Type 0 where
+pub record AnswersType (t w s : List ℕ) (c : Counters) (root : ℕ) (text : List ℕ) (r : Out Answer) : Type 0 where
   pub is : (sh : Sheet) → IsTable t sh.names → Holds (length sh.names) w s c sh.arena → root ≡ sh.root
       → Gives text r (sheet_type sh)
 
@@ -37,5 +37,5 @@ pub record Empty (w s text : List ℕ) : Type 0 where
   pub blank : Blank w s
   pub all_text : length text ≡ 65536
 
-pub record AnswersSheet (input text : List ℕ) (r : Answer) : Type 0 where
+pub record AnswersSheet (input text : List ℕ) (r : Out Answer) : Type 0 where
   pub is : Gives text r (sheet_answer input)

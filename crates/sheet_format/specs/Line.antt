@@ -1,11 +1,14 @@
 -- The line of a sheet (01, "A sheet and its line"; its names: 02, A1).
-use Rattle.std.specs.Prelude.{ℕ, ◌≤◌, true, false, List, [], ◌∷◌, ◌++◌, length, drop, leb, ◌≡◌}
+use Rattle.std.specs.Prelude.{ℕ, ◌≤◌, true, false, List, [], ◌∷◌, ◌++◌, length, drop, leb, ◌≡◌, Ok, Err}
 use Rattle.words.specs.declared.Layout.{Layout}
 use Rattle.words.specs.declared.Layout.TheVariants as layout
-use Rattle.types.specs.Out.{Out, ok, refuse, ◌>>=◌}
+use Rattle.types.specs.declared.refusal.Refusal.{Refusal}
+use Rattle.types.specs.declared.refusal.Refusal.TheVariants as refusal
+use Rattle.types.specs.Refusal.{number_of}
+use Rattle.types.specs.Out.{Out, ◌>>=◌}
 use Rattle.types.specs.Bytes.{bytes}
 use Rattle.types.specs.Decimal.{decimal}
-use Rattle.simplification.specs.Passes.{Result, simplify}
+use Rattle.simplification.specs.Passes.{AfterPasses, simplify}
 use Rattle.spelling.specs.declared.Spelling.TheVariants as spelling
 use Rattle.text_writing.specs.Text.{type_text}
 use Rattle.sheet_reading.specs.Sheet.{Sheet, read_sheet_in}
@@ -18,14 +21,14 @@ pub record Outcome : Type 0 where
 
 -- 65,536 bytes of text are lent; 9 where it is longer
 unfoldable pub limited : List ℕ → Out (List ℕ)
-limited x = elim (leb (length x) 65536) [ true ↦ ok x | false ↦ refuse 9 ]
+limited x = elim (leb (length x) 65536) [ true ↦ Ok x | false ↦ Err refusal.TextTooLong ]
 
 -- what a finished run of `simplify` gives, printed in the arena after, with the sheet's names as the Nix manual writes them (02, A1)
-unfoldable pub printed : Sheet → Result → Out Outcome
+unfoldable pub printed : Sheet → AfterPasses → Out Outcome
 unfolding limited type_text ◌>>=◌
 printed sh q =
     limited (type_text spelling.Nix sh.names q.arena q.root)
-    >>= λ (x : List ℕ). ok (record { root = q.root; passes = length q.taken; text = x })
+    >>= λ (x : List ℕ). Ok (record { root = q.root; passes = length q.taken; text = x })
 
 -- the type of the sheet's root, simplified in an arena of full size; 7 and 8 come from there
 unfoldable pub sheet_type : Sheet → Out Outcome
@@ -45,15 +48,15 @@ unfoldable pub type_line : ℕ → ℕ → List ℕ → List ℕ
 unfolding decimal
 type_line root passes text = decimal root ++ bytes " " ++ decimal passes ++ bytes " " ++ text ++ (10 ∷ [])
 
--- `refused` and the number
-unfoldable pub refused_line : ℕ → List ℕ
+-- `refused` and the number of the refusal
+unfoldable pub refused_line : Refusal → List ℕ
 unfolding decimal
-refused_line e = bytes "refused " ++ decimal e ++ (10 ∷ [])
+refused_line e = bytes "refused " ++ decimal (number_of e) ++ (10 ∷ [])
 
 unfoldable pub line_of : Out Outcome → List ℕ
 unfolding type_line refused_line
-line_of (ok v) = type_line v.root v.passes v.text
-line_of (refuse e) = refused_line e
+line_of (Ok v) = type_line v.root v.passes v.text
+line_of (Err e) = refused_line e
 
 -- the line of the sheet with these bytes; that of an old sheet is what it was (02, A2)
 unfoldable pub sheet_line_in : Layout → List ℕ → List ℕ

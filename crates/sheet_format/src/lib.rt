@@ -11,20 +11,21 @@ ghost use Rattle.sheet_format.specs.Inner.{SheetIn, AnswersType, Empty, AnswersS
 ghost use Rattle.sheet_format.specs.Line.{WritesLine};
 
 use appending::append;
-use display::{Displayed, display_in};
-use sheet_reading::{Reading, read_sheet};
-use simplify::{Simplified, simplify_in};
+use display::display_in;
+use sheet_reading::read_sheet;
+use simplify::simplify_in;
 use spelling::Spelling;
 use text_writing::pieces::write_short;
-use types::Counters;
 use types::short_text::ShortText;
+use types::{Counters, Refusal};
 use words::Layout;
 
-// The root after, the passes made and the length of the text; or the number of a refusal.
-#[derive(Clone, Copy)]
-enum Answer {
-    Type(u32, u32, usize),
-    Refused(u32),
+// The root after, the passes made and the length of the text.
+#[derive(Clone, Copy, Debug, PartialEq, Eq)]
+struct Answer {
+    root: u32,
+    passes: u32,
+    length: usize,
 }
 
 // Writes a number in base ten behind the first `count` bytes.
@@ -35,11 +36,11 @@ fn append_decimal(line: &mut [u8], count: usize, n: u32) -> usize
 }
 
 // Writes the line of a refusal.
-pub fn write_refusal(line: &mut [u8], number: u32) -> usize
-    ensures { Writes line.old 0 (refused_line number) line.new result }
+pub fn write_refusal(line: &mut [u8], refusal: Refusal) -> usize
+    ensures { Writes line.old 0 (refused_line refusal) line.new result }
 {
     let count = append(line, 0, b"refused ");
-    let count = append_decimal(line, count, number);
+    let count = append_decimal(line, count, refusal.number());
     append(line, count, b"\n")
 }
 
@@ -68,31 +69,50 @@ fn answer_type(
     c: Counters,
     root: u32,
     text: &mut [u8],
-) -> Answer
+) -> Result<Answer, Refusal>
     requires { SheetIn table.now words.old starts.old c root text.old }
     ensures { AnswersType table.now words.old starts.old c root text.new result }
 {
     let simplified = simplify_in(words, starts, c, root);
-    let Simplified::Type(n, passes, d) = simplified else {
-        return Answer::Refused(simplified.refusal());
+    let Ok(ty) = simplified else {
+        return Err(simplified.unwrap_err());
     };
-    let displayed = display_in(table, Spelling::Nix, words, starts, d, n, text);
-    let Displayed::Text(length) = displayed else {
-        return Answer::Refused(displayed.refusal());
-    };
-    Answer::Type(n, passes, length)
+    let length = display_in(
+        table,
+        Spelling::Nix,
+        words,
+        starts,
+        ty.counters,
+        ty.root,
+        text,
+    )?;
+    Ok(Answer {
+        root: ty.root,
+        passes: ty.passes,
+        length,
+    })
 }
 
 // What the sheet with these bytes becomes.
-fn answer_sheet(input: &[u8], words: &mut [u32], starts: &mut [u32], text: &mut [u8]) -> Answer
+fn answer_sheet(
+    input: &[u8],
+    words: &mut [u32],
+    starts: &mut [u32],
+    text: &mut [u8],
+) -> Result<Answer, Refusal>
     requires { Empty words.old starts.old text.old }
     ensures { AnswersSheet input.now text.new result }
 {
-    let reading = read_sheet(Layout::New, input, words, starts);
-    let Reading::Sheet(end, c, root) = reading else {
-        return Answer::Refused(reading.refusal());
-    };
-    answer_type(&input[6..end], words, starts, c, root, text)
+    let sheet = read_sheet(Layout::New, input, words, starts)?;
+    let end = sheet.end;
+    answer_type(
+        &input[6..end],
+        words,
+        starts,
+        sheet.counters,
+        sheet.root,
+        text,
+    )
 }
 
 // Writes the line of the sheet, and answers how many bytes it has.
@@ -102,9 +122,11 @@ pub fn sheet_line(input: &[u8], line: &mut [u8; 65544]) -> usize
     let mut words = [0u32; 16384];
     let mut starts = [0u32; 4096];
     let mut text = [0u8; 65536];
-    let answer = answer_sheet(input, &mut words, &mut starts, &mut text);
-    match answer {
-        Answer::Refused(number) => write_refusal(line, number),
-        Answer::Type(root, passes, length) => write_type(line, root, passes, &text[..length]),
+    match answer_sheet(input, &mut words, &mut starts, &mut text) {
+        Ok(answer) => {
+            let length = answer.length;
+            write_type(line, answer.root, answer.passes, &text[..length])
+        }
+        Err(refusal) => write_refusal(line, refusal),
     }
 }

@@ -10,14 +10,16 @@ use lib.Seq.{drop-drop}
 use lib.Dec.{eqb, leb}
 use borrow.Author.Tests.{leb-true, leb-false}
 use Rattle.words.specs.Words.{head_kind, head_open, head_dynamic, head_zero, head_count}
-use Rattle.types.specs.Out.{Out, ok, refuse, ◌>>=◌}
+use Rattle.std.specs.Prelude.{Ok, Err}
+use Rattle.types.specs.declared.refusal.Refusal.{Refusal}
+use Rattle.types.specs.declared.refusal.Refusal.TheVariants as refusal
+use Rattle.types.specs.Out.{Out, ◌>>=◌}
 use Rattle.types.specs.Kind.{Kind, kind_of, body_of, body_count}
 use Rattle.types.specs.Fault.{flags_fit, kind_fits, head_fits}
 use Rattle.types.proofs.Tests.{true_false, and_true}
 use Rattle.types.proofs.Nodes.{few_words}
 use Rattle.sheet_reading.specs.Sheet.{value, words, node_length, measured, node_words}
 use Rattle.sheet_reading.specs.Inner.Steps.{WordAt, ReadsWords}
-use Rattle.sheet_reading.specs.declared.bytes.Place.TheVariants as place
 use Rattle.sheet_reading.proofs.Readers.{same_value, never_refused, several_yes, several_no, number_yes, number_no, reads_to, reads_stop}
 
 -- a head that fits counts at most 65 words
@@ -30,7 +32,7 @@ head_few h e = go (kind_of (head_kind h)) (and_true (eqb (head_zero h) 0) (kind_
     go (some k) p = few_words k (head_dynamic h) (head_count h) (and_true (flags_fit (body_of k) (head_open h) (head_dynamic h)) (body_count k (head_dynamic h) (head_count h)) p).1
 
 module _ (bs : List ℕ) where
-  pub measured_none : length bs < 4 → measured bs ≡ refuse 10
+  pub measured_none : length bs < 4 → measured bs ≡ Err refusal.MalformedSheet
   unfolding measured
   measured_none h = ap (λ (o : Out (ℕ × List ℕ)). o >>= λ (w : ℕ × List ℕ). node_length w.0) (number_no 4 bs h)
 
@@ -39,11 +41,11 @@ module _ (bs : List ℕ) where
     unfolding measured
     measured_is = ap (λ (o : Out (ℕ × List ℕ)). o >>= λ (w : ℕ × List ℕ). node_length w.0) (number_yes 4 bs h)
 
-    pub measured_bad : head_fits (value (take 4 bs)) ≡ false → measured bs ≡ refuse 3
+    pub measured_bad : head_fits (value (take 4 bs)) ≡ false → measured bs ≡ Err refusal.MalformedNode
     unfolding node_length
     measured_bad e = measured_is ∙ rw (node_length, e)
 
-    pub measured_good : head_fits (value (take 4 bs)) ≡ true → measured bs ≡ ok (suc (head_count (value (take 4 bs))))
+    pub measured_good : head_fits (value (take 4 bs)) ≡ true → measured bs ≡ Ok (suc (head_count (value (take 4 bs))))
     unfolding node_length
     measured_good e = measured_is ∙ rw (node_length, e)
 
@@ -52,7 +54,7 @@ module _ (bs : List ℕ) where
     pub some : 1 ≤ n
     pub few : n ≤ 66
 
-  measured_few : (n : ℕ) → measured bs ≡ ok n → Measured n
+  measured_few : (n : ℕ) → measured bs ≡ Ok n → Measured n
   measured_few n e = sized (leb 4 (length bs)) refl
     where
       judged : 4 ≤ length bs → (t : Bool) → head_fits (value (take 4 bs)) ≡ t → Measured n
@@ -65,16 +67,16 @@ module _ (bs : List ℕ) where
       sized false p = absurd (never_refused e (measured_none (leb-false 4 (length bs) p)))
       sized true p = judged (leb-true 4 (length bs) p) (head_fits (value (take 4 bs))) refl
 
-  pub words_stop : {e : ℕ} → measured bs ≡ refuse e → node_words bs ≡ refuse e
+  pub words_stop : {e : Refusal} → measured bs ≡ Err e → node_words bs ≡ Err e
   unfolding node_words ◌>>=◌
   words_stop p = rw (node_words, p)
 
-  module _ {n : ℕ} (p : measured bs ≡ ok n) where
-    pub words_cut : length bs < 4 * n → node_words bs ≡ refuse 10
+  module _ {n : ℕ} (p : measured bs ≡ Ok n) where
+    pub words_cut : length bs < 4 * n → node_words bs ≡ Err refusal.MalformedSheet
     unfolding node_words ◌>>=◌
     words_cut h = rw (node_words, p) (rw (several_no (4 * n) bs h))
 
-    pub words_whole : 4 * n ≤ length bs → node_words bs ≡ ok (words n (take (4 * n) bs), drop (4 * n) bs)
+    pub words_whole : 4 * n ≤ length bs → node_words bs ≡ Ok (words n (take (4 * n) bs), drop (4 * n) bs)
     unfolding node_words ◌>>=◌
     words_whole h = rw (node_words, p) (rw (several_yes (4 * n) bs h))
 
@@ -87,22 +89,22 @@ pub record WordsAre (bs : List ℕ) (v : List ℕ × List ℕ) : Type 0 where
   pub is : v.0 ≡ words count (take (4 * count) bs)
   pub rest : v.1 ≡ drop (4 * count) bs
 
-pub words_are : (bs : List ℕ) (v : List ℕ × List ℕ) → node_words bs ≡ ok v → WordsAre bs v
+pub words_are : (bs : List ℕ) (v : List ℕ × List ℕ) → node_words bs ≡ Ok v → WordsAre bs v
 words_are bs v e = go (measured bs) refl
   where
-    sized : (n : ℕ) → measured bs ≡ ok n → (t : Bool) → leb (4 * n) (length bs) ≡ t → WordsAre bs v
+    sized : (n : ℕ) → measured bs ≡ Ok n → (t : Bool) → leb (4 * n) (length bs) ≡ t → WordsAre bs v
     sized n p false q = absurd (never_refused e (words_cut bs p (leb-false (4 * n) (length bs) q)))
     sized n p true q =
         let l = leb-true (4 * n) (length bs) q in
         subst (WordsAre bs) (same_value (sym (words_whole bs p l) ∙ e)) (record { count = n; some = (measured_few bs n p).some; few = (measured_few bs n p).few; long = l; is = refl; rest = refl })
 
     go : (o : Out ℕ) → measured bs ≡ o → WordsAre bs v
-    go (ok n) p = sized n p (leb (4 * n) (length bs)) refl
-    go (refuse x) p = absurd (never_refused e (words_stop bs p))
+    go (Ok n) p = sized n p (leb (4 * n) (length bs)) refl
+    go (Err x) p = absurd (never_refused e (words_stop bs p))
 
 -- ---- by place
 module _ (bytes : List ℕ) (at : ℕ) where
-  pub head_missing : length bytes - at < 4 → ReadsWords bytes at (place.Refused 10)
+  pub head_missing : length bytes - at < 4 → ReadsWords bytes at (Err refusal.MalformedSheet)
   head_missing h = record { is = reads_stop (words_stop (drop at bytes) (measured_none (drop at bytes) (omega (arith, h, length-drop at bytes)))) }
 
   module _ (h : 4 ≤ length bytes - at) {w : ℕ} (W : WordAt bytes at w) {r : Bool} (e : r ≡ head_fits w) where
@@ -112,23 +114,23 @@ module _ (bytes : List ℕ) (at : ℕ) where
     judged : head_fits (value (take 4 (drop at bytes))) ≡ r
     judged = sym (e ∙ ap head_fits W.is)
 
-    pub head_bad : r ≡ false → ReadsWords bytes at (place.Refused 3)
+    pub head_bad : r ≡ false → ReadsWords bytes at (Err refusal.MalformedNode)
     head_bad q = record { is = reads_stop (words_stop (drop at bytes) (measured_bad (drop at bytes) there (judged ∙ q))) }
 
     module _ (q : r ≡ true) {n : ℕ} (c : n ≡ head_count w) where
-      counted : measured (drop at bytes) ≡ ok (suc n)
-      counted = measured_good (drop at bytes) there (judged ∙ q) ∙ ap (λ (i : ℕ). ok (suc i)) (sym (c ∙ ap head_count W.is))
+      counted : measured (drop at bytes) ≡ Ok (suc n)
+      counted = measured_good (drop at bytes) there (judged ∙ q) ∙ ap (λ (i : ℕ). Ok (suc i)) (sym (c ∙ ap head_count W.is))
 
-      pub body_missing : length bytes - at < 4 + 4 * n → ReadsWords bytes at (place.Refused 10)
+      pub body_missing : length bytes - at < 4 + 4 * n → ReadsWords bytes at (Err refusal.MalformedSheet)
       body_missing l = record { is = reads_stop (words_cut (drop at bytes) counted (omega (arith, l, length-drop at bytes))) }
 
-      pub node_whole : 4 + 4 * n ≤ length bytes - at → ReadsWords bytes at (place.At (at + (4 + 4 * n)))
+      pub node_whole : 4 + 4 * n ≤ length bytes - at → ReadsWords bytes at (Ok (at + (4 + 4 * n)))
       node_whole l =
           let j : at + 4 * suc n ≡ at + (4 + 4 * n) = omega arith in
           let d = drop-drop (4 * suc n) at bytes ∙ ap (λ (i : ℕ). drop i bytes) j in
           record {
             is = reads_to {v = words (suc n) (take (4 * suc n) (drop at bytes))}
-                (words_whole (drop at bytes) counted (omega (arith, l, length-drop at bytes)) ∙ ap (λ (u : List ℕ). ok (words (suc n) (take (4 * suc n) (drop at bytes)), u)) d)
+                (words_whole (drop at bytes) counted (omega (arith, l, length-drop at bytes)) ∙ ap (λ (u : List ℕ). Ok (words (suc n) (take (4 * suc n) (drop at bytes)), u)) d)
                 (omega arith)
                 (omega (arith, l));
           }

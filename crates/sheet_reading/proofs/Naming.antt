@@ -7,7 +7,10 @@ use native.Mathlib.Omega.{arith}
 use lib.ListN.{length, take, drop, length-append, take-append-drop}
 use lib.Dec.{leb}
 use borrow.Author.Tests.{le-leb, lt-leb, leb-true, leb-false}
-use Rattle.types.specs.Out.{Out, ok, refuse, ◌>>=◌}
+use Rattle.std.specs.Prelude.{Ok, Err}
+use Rattle.types.specs.declared.refusal.Refusal.{Refusal}
+use Rattle.types.specs.declared.refusal.Refusal.TheVariants as refusal
+use Rattle.types.specs.Out.{Out, ◌>>=◌}
 use Rattle.types.proofs.Tests.{and_true, both}
 use Rattle.types.specs.Order.{is_less}
 use Rattle.names.specs.Table.{Name, table, name_order, rising, good_name, all_good, may_follow}
@@ -16,37 +19,37 @@ use Rattle.sheet_reading.specs.Sheet.{value_after, number, several, last, name, 
 use Rattle.sheet_reading.proofs.Readers.{same_value, never_refused, several_yes, several_no, number_yes}
 
 -- ---- one name
-pub name_none : (previous : Name) → name previous [] ≡ refuse 10
+pub name_none : (previous : Name) → name previous [] ≡ Err refusal.MalformedSheet
 unfolding name
 name_none previous = refl
 
 module _ (previous : Name) (b : ℕ) (u : List ℕ) where
-  first_byte : number 1 (b ∷ u) ≡ ok (b, u)
+  first_byte : number 1 (b ∷ u) ≡ Ok (b, u)
   unfolding value_after
-  first_byte = number_yes 1 (b ∷ u) (omega arith) ∙ ap (λ (i : ℕ). ok (i, u)) (omega arith)
+  first_byte = number_yes 1 (b ∷ u) (omega arith) ∙ ap (λ (i : ℕ). Ok (i, u)) (omega arith)
 
   pub name_length : {v : Bool} → (leb 1 b && leb b 64) ≡ v → name previous (b ∷ u) ≡ elim v [
-    | false ↦ refuse 1
-    | true ↦ several b u >>= λ (n : Name × List ℕ). elim (may_follow previous b n.0) as (λ _. Out (Name × List ℕ)) [ false ↦ refuse 1 | true ↦ ok n ]
+    | false ↦ Err refusal.BadTable
+    | true ↦ several b u >>= λ (n : Name × List ℕ). elim (may_follow previous b n.0) as (λ _. Out (Name × List ℕ)) [ false ↦ Err refusal.BadTable | true ↦ Ok n ]
   ]
   unfolding name
   name_length e = rw (← e) (rw (name, first_byte))
 
-  pub name_small : b < 1 → name previous (b ∷ u) ≡ refuse 1
+  pub name_small : b < 1 → name previous (b ∷ u) ≡ Err refusal.BadTable
   name_small h = name_length {v = false} (rw (lt-leb 1 b h))
 
-  pub name_large : 64 < b → name previous (b ∷ u) ≡ refuse 1
+  pub name_large : 64 < b → name previous (b ∷ u) ≡ Err refusal.BadTable
   name_large h = name_length {v = false} (rw (le-leb 1 b (omega arith), lt-leb b 64 h))
 
   module _ (l : 1 ≤ b) (h : b ≤ 64) where
     fair : (leb 1 b && leb b 64) ≡ true
     fair = both (le-leb 1 b l) (le-leb b 64 h)
 
-    pub name_cut : length u < b → name previous (b ∷ u) ≡ refuse 10
+    pub name_cut : length u < b → name previous (b ∷ u) ≡ Err refusal.MalformedSheet
     unfolding ◌>>=◌
     name_cut m = name_length fair ∙ rw (several_no b u m)
 
-    pub name_judged : b ≤ length u → {v : Bool} → may_follow previous b (take b u) ≡ v → name previous (b ∷ u) ≡ elim v [ false ↦ refuse 1 | true ↦ ok (take b u, drop b u) ]
+    pub name_judged : b ≤ length u → {v : Bool} → may_follow previous b (take b u) ≡ v → name previous (b ∷ u) ≡ elim v [ false ↦ Err refusal.BadTable | true ↦ Ok (take b u, drop b u) ]
     unfolding ◌>>=◌
     name_judged m e = rw (← e) (name_length fair ∙ rw (several_yes b u m))
 
@@ -56,7 +59,7 @@ pub record NameIs (previous : Name) (bs : List ℕ) (v : Name × List ℕ) : Typ
   pub good : good_name v.0 ≡ true
   pub rises : is_less (name_order previous v.0) ≡ true
 
-pub name_is : (previous : Name) (bs : List ℕ) (v : Name × List ℕ) → name previous bs ≡ ok v → NameIs previous bs v
+pub name_is : (previous : Name) (bs : List ℕ) (v : Name × List ℕ) → name previous bs ≡ Ok v → NameIs previous bs v
 name_is previous [] v e = absurd (never_refused e (name_none previous))
 name_is previous (b ∷ u) v e = go (leb 1 b && leb b 64) refl
   where
@@ -99,26 +102,26 @@ rising_more (m ∷ []) n r e = both e refl
 rising_more (l ∷ m ∷ ns) n r e = let p = and_true (is_less (name_order l m)) (rising (m ∷ ns)) r in both p.0 (rising_more (m ∷ ns) n p.1 e)
 
 module _ (k : ℕ) (ns : List Name) (bs : List ℕ) where
-  pub names_stop : {e : ℕ} → name (last ns) bs ≡ refuse e → names (suc k) ns bs ≡ refuse e
+  pub names_stop : {e : Refusal} → name (last ns) bs ≡ Err e → names (suc k) ns bs ≡ Err e
   unfolding names
   names_stop p = rw p
 
-  pub names_next : {n : Name} {u : List ℕ} → name (last ns) bs ≡ ok (n, u) → names (suc k) ns bs ≡ names k (ns ++ (n ∷ [])) u
+  pub names_next : {n : Name} {u : List ℕ} → name (last ns) bs ≡ Ok (n, u) → names (suc k) ns bs ≡ names k (ns ++ (n ∷ [])) u
   unfolding names
   names_next p = rw p
 
   record Step (v : List Name × List ℕ) : Type 0 where
     pub text : Name
     pub left : List ℕ
-    pub is : name (last ns) bs ≡ ok (text, left)
-    pub next : names k (ns ++ (text ∷ [])) left ≡ ok v
+    pub is : name (last ns) bs ≡ Ok (text, left)
+    pub next : names k (ns ++ (text ∷ [])) left ≡ Ok v
 
-  step : (v : List Name × List ℕ) → names (suc k) ns bs ≡ ok v → Step v
+  step : (v : List Name × List ℕ) → names (suc k) ns bs ≡ Ok v → Step v
   step v e = go (name (last ns) bs) refl
     where
       go : (o : Out (Name × List ℕ)) → name (last ns) bs ≡ o → Step v
-      go (ok (n, u)) p = record { text = n; left = u; is = p; next = sym (names_next p) ∙ e }
-      go (refuse x) p = absurd (never_refused e (names_stop p))
+      go (Ok (n, u)) p = record { text = n; left = u; is = p; next = sym (names_next p) ∙ e }
+      go (Err x) p = absurd (never_refused e (names_stop p))
 
 -- ---- all names
 pub record NamesAre (k : ℕ) (ns : List Name) (bs : List ℕ) (v : List Name × List ℕ) : Type 0 where
@@ -127,7 +130,7 @@ pub record NamesAre (k : ℕ) (ns : List Name) (bs : List ℕ) (v : List Name ×
   pub rises : rising v.0 ≡ true
   pub count : length v.0 ≡ length ns + k
 
-pub names_are : (k : ℕ) (ns : List Name) (bs : List ℕ) (v : List Name × List ℕ) → all_good ns ≡ true → rising ns ≡ true → names k ns bs ≡ ok v → NamesAre k ns bs v
+pub names_are : (k : ℕ) (ns : List Name) (bs : List ℕ) (v : List Name × List ℕ) → all_good ns ≡ true → rising ns ≡ true → names k ns bs ≡ Ok v → NamesAre k ns bs v
 unfolding names
 names_are zero ns bs v g r e =
     let q : ◌≡◌ {A = List Name × List ℕ} (ns, bs) v = same_value e in

@@ -2,13 +2,14 @@
 -- the most names that it may have are a parameter (02, A2).
 use Prim.Native.Nat.{ℕ, zero, suc, ◌+◌, ◌*◌}
 use Rattle.std.proofs.Math.Bool.{true, false}
-use Rattle.std.specs.Prelude.{◌&&◌, length, take, drop, eqb, leb, ltb}
+use Rattle.std.specs.Prelude.{◌&&◌, length, take, drop, eqb, leb, ltb, Ok, Err}
 use mathlib.Core.List.{List, [], ◌∷◌, ◌++◌}
 use Rattle.std.proofs.Math.Option.{none, some}
 use Rattle.words.specs.Words.{head_count}
 use Rattle.words.specs.declared.Layout.{Layout}
 use Rattle.words.specs.declared.Layout.TheVariants as layout
-use Rattle.types.specs.Out.{Out, ok, refuse, ◌>>=◌}
+use Rattle.types.specs.declared.refusal.Refusal.TheVariants as refusal
+use Rattle.types.specs.Out.{Out, ◌>>=◌}
 use Rattle.types.specs.Node.{Node, decode_in}
 use Rattle.types.specs.Fault.{head_fits}
 use Rattle.types.specs.Arena.{Arena, find}
@@ -21,7 +22,7 @@ Reader A = List ℕ → Out (A × List ℕ)
 
 -- so many bytes; 10 where one is missing
 unfoldable pub several : ℕ → Reader (List ℕ)
-several k bs = elim (leb k (length bs)) [ true ↦ ok (take k bs, drop k bs) | false ↦ refuse 10 ]
+several k bs = elim (leb k (length bs)) [ true ↦ Ok (take k bs, drop k bs) | false ↦ Err refusal.MalformedSheet ]
 
 -- bytes as one number, the most significant first; n is that of the bytes before
 unfoldable pub value_after : ℕ → List ℕ → ℕ
@@ -34,7 +35,7 @@ value = value_after 0
 -- a number of so many bytes
 unfoldable pub number : ℕ → Reader ℕ
 unfolding several value_after ◌>>=◌
-number k bs = several k bs >>= λ (r : List ℕ × List ℕ). ok (value r.0, r.1)
+number k bs = several k bs >>= λ (r : List ℕ × List ℕ). Ok (value r.0, r.1)
 
 -- ---- the opening
 pub record Opening : Type 0 where
@@ -46,7 +47,7 @@ pub record Opening : Type 0 where
 unfoldable pub opening : Reader Opening
 unfolding several value_after ◌>>=◌
 opening bs =
-    several 6 bs >>= λ (r : List ℕ × List ℕ). ok
+    several 6 bs >>= λ (r : List ℕ × List ℕ). Ok
     (record { names = value (take 2 r.0); nodes = value (take 2 (drop 2 r.0)); root = value (take 2 (drop 4 r.0)) }, r.1)
 
 -- ---- the names
@@ -60,14 +61,14 @@ last (m ∷ n ∷ ns) = last (n ∷ ns)
 unfoldable pub name : Name → Reader Name
 unfolding number several may_follow ◌>>=◌
 name previous bs = number 1 bs >>= λ (b : ℕ × List ℕ). elim (leb 1 b.0 && leb b.0 64) [
-  | false ↦ refuse 1
-  | true ↦ several b.0 b.1 >>= λ (n : Name × List ℕ). elim (may_follow previous b.0 n.0) [ false ↦ refuse 1 | true ↦ ok n ]
+  | false ↦ Err refusal.BadTable
+  | true ↦ several b.0 b.1 >>= λ (n : Name × List ℕ). elim (may_follow previous b.0 n.0) [ false ↦ Err refusal.BadTable | true ↦ Ok n ]
 ]
 
 -- so many names more, after those read so far
 unfoldable pub names : ℕ → List Name → Reader (List Name)
 unfolding name last ◌>>=◌
-names zero ns bs = ok (ns, bs)
+names zero ns bs = Ok (ns, bs)
 names (suc k) ns bs = name (last ns) bs >>= λ (n : Name × List ℕ). names k (ns ++ (n.0 ∷ [])) n.1
 
 -- ---- the nodes
@@ -80,7 +81,7 @@ words (suc k) bs = value (take 4 bs) ∷ words k (drop 4 bs)
 -- how many words a node with this head has; a head's own faults are 3
 unfoldable pub node_length : ℕ → Out ℕ
 unfolding head_fits head_count
-node_length h = elim (head_fits h) [ false ↦ refuse 3 | true ↦ ok (suc (head_count h)) ]
+node_length h = elim (head_fits h) [ false ↦ Err refusal.MalformedNode | true ↦ Ok (suc (head_count h)) ]
 
 -- the same of the next node, whose head is read before its body
 unfoldable pub measured : List ℕ → Out ℕ
@@ -90,7 +91,7 @@ measured bs = number 4 bs >>= λ (h : ℕ × List ℕ). node_length h.0
 -- the words of the next node, from its head on
 unfoldable pub node_words : Reader (List ℕ)
 unfolding measured several words ◌>>=◌
-node_words bs = measured bs >>= λ (n : ℕ). several (4 * n) bs >>= λ (r : List ℕ × List ℕ). ok (words n r.0, r.1)
+node_words bs = measured bs >>= λ (n : ℕ). several (4 * n) bs >>= λ (r : List ℕ × List ℕ). Ok (words n r.0, r.1)
 
 -- with so many words and starts for the nodes, under a table of so many names
 module _ (lent_words lent_starts : ℕ) where
@@ -99,7 +100,7 @@ module _ (lent_words lent_starts : ℕ) where
   unfolding find has_room
   placed a x =
       elim (find x a)
-      [ some n ↦ refuse 10 | none ↦ elim (has_room lent_words lent_starts (x ∷ a)) [ false ↦ refuse 7 | true ↦ ok (x ∷ a) ] ]
+      [ some n ↦ Err refusal.MalformedSheet | none ↦ elim (has_room lent_words lent_starts (x ∷ a)) [ false ↦ Err refusal.NoRoom | true ↦ Ok (x ∷ a) ] ]
 
 module _ (l : Layout) (lent_words lent_starts table : ℕ) where
   -- the node with these words put behind the others; before that its faults 3, 4, 5 over the whole node
@@ -110,12 +111,12 @@ module _ (l : Layout) (lent_words lent_starts table : ℕ) where
   -- the arena with the next node
   unfoldable pub node : Arena → Reader Arena
   unfolding node_words added ◌>>=◌
-  node a bs = node_words bs >>= λ (r : List ℕ × List ℕ). added r.0 a >>= λ (b : Arena). ok (b, r.1)
+  node a bs = node_words bs >>= λ (r : List ℕ × List ℕ). added r.0 a >>= λ (b : Arena). Ok (b, r.1)
 
   -- so many nodes more
   unfoldable pub nodes : ℕ → Arena → Reader Arena
   unfolding node ◌>>=◌
-  nodes zero a bs = ok (a, bs)
+  nodes zero a bs = Ok (a, bs)
   nodes (suc k) a bs = node a bs >>= λ (r : Arena × List ℕ). nodes k r.0 r.1
 
 -- ---- the sheet
@@ -129,18 +130,18 @@ unfoldable pub after_names : Layout → Opening → List Name × List ℕ → Ou
 unfolding nodes ◌>>=◌
 after_names l o t =
     nodes l 16384 4096 o.names o.nodes [] t.1
-    >>= λ (a : Arena × List ℕ). ok (record { names = t.0; arena = a.0; root = o.root }, a.1)
+    >>= λ (a : Arena × List ℕ). Ok (record { names = t.0; arena = a.0; root = o.root }, a.1)
 
 -- what follows the opening; a name count over the most is 1
 unfoldable pub contents : Layout → Opening → Reader Sheet
 unfolding names after_names ◌>>=◌
-contents l o bs = elim (leb o.names (most_names l)) [ false ↦ refuse 1 | true ↦ names o.names [] bs >>= after_names l o ]
+contents l o bs = elim (leb o.names (most_names l)) [ false ↦ Err refusal.BadTable | true ↦ names o.names [] bs >>= after_names l o ]
 
 -- after the last node: bytes left over, of a sheet with so many bytes, are 10; then a root that is no node is 6
 unfoldable pub ended : ℕ → Sheet × List ℕ → Out Sheet
 ended size r = elim (eqb (length r.1) 0 && leb size 65536) [
-  | false ↦ refuse 10
-  | true ↦ elim (ltb r.0.root (length r.0.arena)) [ false ↦ refuse 6 | true ↦ ok r.0 ]
+  | false ↦ Err refusal.MalformedSheet
+  | true ↦ elim (ltb r.0.root (length r.0.arena)) [ false ↦ Err refusal.NoSuchRoot | true ↦ Ok r.0 ]
 ]
 
 -- the bytes past 65,536 are never read

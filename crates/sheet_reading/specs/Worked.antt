@@ -1,6 +1,7 @@
 -- Small sheets, and what each says.
-use Rattle.std.specs.Prelude.{ℕ, true, false, List, [], ◌∷◌, ◌++◌}
-use Rattle.types.specs.Out.{Out, ok, refuse}
+use Rattle.std.specs.Prelude.{ℕ, true, false, List, [], ◌∷◌, ◌++◌, Ok, Err}
+use Rattle.types.specs.declared.refusal.Refusal.TheVariants as refusal
+use Rattle.types.specs.Out.{Out}
 use Rattle.words.specs.declared.Layout.{Layout}
 use Rattle.words.specs.declared.Layout.TheVariants as layout
 use Rattle.types.specs.Node.{positive, field, primitive, attrset, named, Tag, members, var, form, node}
@@ -57,7 +58,7 @@ two_names = 1 ∷ 97 ∷ 1 ∷ 98 ∷ []
 
 -- a sheet of two names, two nodes and this tag over variable 0, whose root is node 1
 abbrev two_nodes : Tag → Out Sheet
-two_nodes t = ok (record { names = (97 ∷ []) ∷ (98 ∷ []) ∷ []; arena = node t (0 ∷ []) ∷ node (var 0) [] ∷ []; root = 1 })
+two_nodes t = Ok (record { names = (97 ∷ []) ∷ (98 ∷ []) ∷ []; arena = node t (0 ∷ []) ∷ node (var 0) [] ∷ []; root = 1 })
 
 -- a closed set whose one field is optional and has name 1
 abbrev optional_one : Tag
@@ -67,24 +68,24 @@ optional_one = form (attrset (field true 1 ∷ []) false false)
 -- tells the layouts apart (02, A2): the counts of names, name 1 in a field and in a named type, the zero fields, name 0
 abbrev pub worked : List Case
 worked =
-    both example (ok (record { names = []; arena = example_arena; root = 2 }))
-    ++ both (opens 1 0 0 ++ (65 ∷ [])) (refuse 1)
-    ++ both (opens 2 0 0 ++ (1 ∷ 97 ∷ 1 ∷ 97 ∷ [])) (refuse 1)
-    ++ both (opens 0 1 0 ++ (48 ∷ 0 ∷ 0 ∷ 2 ∷ [])) (refuse 3)
-    ++ both (opens 0 1 0 ++ primitive_of 8) (refuse 3)
-    ++ both (opens 0 2 0 ++ variable ++ union_of 0 1) (refuse 4)
-    ++ both (opens 1 2 0 ++ (1 ∷ 97 ∷ []) ++ variable ++ fields) (refuse 5)
-    ++ both (opens 0 1 1 ++ variable) (refuse 6)
-    ++ both (opens 0 1 0 ++ (48 ∷ 0 ∷ 0 ∷ 1 ∷ 0 ∷ [])) (refuse 10)
-    ++ both (opens 0 1 1 ++ variable ++ (0 ∷ [])) (refuse 10)
-    ++ both (opens 0 2 0 ++ variable ++ variable) (refuse 10)
-    ++ both (opens 1 0 0 ++ (2 ∷ 97 ∷ [])) (refuse 10)
-    ++ both (0 ∷ 0 ∷ 0 ∷ 0 ∷ 0 ∷ []) (refuse 10)
-    ++ both (16 ∷ 1 ∷ 0 ∷ 0 ∷ 0 ∷ 0 ∷ []) (refuse 1)
-    ++ each (1 ∷ 1 ∷ 0 ∷ 0 ∷ 0 ∷ 0 ∷ []) (refuse 10) (refuse 1)
-    ++ each (opens 2 2 1 ++ two_names ++ set_with (128 ∷ 128 ∷ 0 ∷ 0 ∷ [])) (refuse 4) (two_nodes optional_one)
-    ++ each (opens 2 2 1 ++ two_names ++ set_with (128 ∷ 0 ∷ 128 ∷ 0 ∷ [])) (two_nodes optional_one) (refuse 3)
-    ++ each (opens 2 2 1 ++ two_names ++ named_with (0 ∷ 0 ∷ 128 ∷ 0 ∷ [])) (two_nodes (form (named 1))) (refuse 3)
-    ++ both (opens 2 2 1 ++ two_names ++ named_with (0 ∷ 0 ∷ 16 ∷ 0 ∷ [])) (refuse 3)
-    ++ both (opens 2 2 1 ++ two_names ++ named_with (0 ∷ 0 ∷ 64 ∷ 0 ∷ [])) (refuse 3)
+    both example (Ok (record { names = []; arena = example_arena; root = 2 }))
+    ++ both (opens 1 0 0 ++ (65 ∷ [])) (Err refusal.BadTable)
+    ++ both (opens 2 0 0 ++ (1 ∷ 97 ∷ 1 ∷ 97 ∷ [])) (Err refusal.BadTable)
+    ++ both (opens 0 1 0 ++ (48 ∷ 0 ∷ 0 ∷ 2 ∷ [])) (Err refusal.MalformedNode)
+    ++ both (opens 0 1 0 ++ primitive_of 8) (Err refusal.MalformedNode)
+    ++ both (opens 0 2 0 ++ variable ++ union_of 0 1) (Err refusal.OutOfRange)
+    ++ both (opens 1 2 0 ++ (1 ∷ 97 ∷ []) ++ variable ++ fields) (Err refusal.UnorderedFields)
+    ++ both (opens 0 1 1 ++ variable) (Err refusal.NoSuchRoot)
+    ++ both (opens 0 1 0 ++ (48 ∷ 0 ∷ 0 ∷ 1 ∷ 0 ∷ [])) (Err refusal.MalformedSheet)
+    ++ both (opens 0 1 1 ++ variable ++ (0 ∷ [])) (Err refusal.MalformedSheet)
+    ++ both (opens 0 2 0 ++ variable ++ variable) (Err refusal.MalformedSheet)
+    ++ both (opens 1 0 0 ++ (2 ∷ 97 ∷ [])) (Err refusal.MalformedSheet)
+    ++ both (0 ∷ 0 ∷ 0 ∷ 0 ∷ 0 ∷ []) (Err refusal.MalformedSheet)
+    ++ both (16 ∷ 1 ∷ 0 ∷ 0 ∷ 0 ∷ 0 ∷ []) (Err refusal.BadTable)
+    ++ each (1 ∷ 1 ∷ 0 ∷ 0 ∷ 0 ∷ 0 ∷ []) (Err refusal.MalformedSheet) (Err refusal.BadTable)
+    ++ each (opens 2 2 1 ++ two_names ++ set_with (128 ∷ 128 ∷ 0 ∷ 0 ∷ [])) (Err refusal.OutOfRange) (two_nodes optional_one)
+    ++ each (opens 2 2 1 ++ two_names ++ set_with (128 ∷ 0 ∷ 128 ∷ 0 ∷ [])) (two_nodes optional_one) (Err refusal.MalformedNode)
+    ++ each (opens 2 2 1 ++ two_names ++ named_with (0 ∷ 0 ∷ 128 ∷ 0 ∷ [])) (two_nodes (form (named 1))) (Err refusal.MalformedNode)
+    ++ both (opens 2 2 1 ++ two_names ++ named_with (0 ∷ 0 ∷ 16 ∷ 0 ∷ [])) (Err refusal.MalformedNode)
+    ++ both (opens 2 2 1 ++ two_names ++ named_with (0 ∷ 0 ∷ 64 ∷ 0 ∷ [])) (Err refusal.MalformedNode)
     ++ both (opens 2 2 1 ++ two_names ++ named_with (0 ∷ 0 ∷ 0 ∷ 0 ∷ [])) (two_nodes (form (named 0)))

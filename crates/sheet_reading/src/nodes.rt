@@ -1,10 +1,7 @@
 // The nodes of a sheet, read into lent memory. The arena in memory is known to be sound, and stays so: it isn't checked again.
-ghost use Rattle.std.specs.Prelude.{◌≡◌};
-ghost use Rattle.types.specs.Out.{number};
 ghost use Rattle.node_store.specs.Inner.Added.{Under};
 ghost use Rattle.node_filter.specs.Inner.Filter.{CoversLent, CoversAfter};
 ghost use Rattle.sheet_reading.specs.Inner.Steps.{
-  nodes_out,
   Here,
   ReadsWords,
   Stretch,
@@ -21,43 +18,23 @@ ghost use Rattle.sheet_reading.specs.Inner.Steps.{
   StoresNodes,
 };
 
-use crate::bytes::{Place, word};
-use node_faults::{fault, head_fits};
+use crate::bytes::word;
+use node_faults::{check_node, head_fits};
 use node_filter::intern_filtered;
 use node_order::field_count;
-use node_store::added::Interned;
-use types::Counters;
 use types::arc_ty::{Head, wide};
 use types::attrset::renewed;
+use types::{Counters, Refusal};
 use words::Layout;
 
-// The place where reading goes on and the counters, or the number of a refusal.
-#[derive(Drop)]
-pub(crate) enum Nodes {
-    To(usize, Counters),
-    Refused(u32),
-}
-
-impl Nodes {
-    // The number of a refusal, for an answer of another type.
-    pub(crate) fn refusal(self) -> u32
-        ensures { result ≡ number (nodes_out self) }
-    {
-        match self {
-            Nodes::To(_, _) => 0,
-            Nodes::Refused(number) => number,
-        }
-    }
-}
-
 // Where the node ends whose head stands at `at`: the head is judged before the body is read.
-fn node_end(bytes: &[u8], at: usize) -> Place
+fn node_end(bytes: &[u8], at: usize) -> Result<usize, Refusal>
     requires { Here bytes.now at }
     ensures { ReadsWords bytes.now at result }
 {
     let left = bytes.len() - at;
     if left < 4 {
-        return Place::Refused(10);
+        return Err(Refusal::MalformedSheet);
     }
     let head = Head {
         word: word(bytes, at),
@@ -66,12 +43,12 @@ fn node_end(bytes: &[u8], at: usize) -> Place
     let fits = head_fits(head);
     if fits {
         if left < size {
-            return Place::Refused(10);
+            return Err(Refusal::MalformedSheet);
         }
         let end = at + size;
-        return Place::At(end);
+        return Ok(end);
     }
-    Place::Refused(3)
+    Err(Refusal::MalformedNode)
 }
 
 // Copies the words that the bytes have, and answers how many.
@@ -80,10 +57,8 @@ pub fn copy_words(bytes: &[u8], words: &mut [u32]) -> usize
     ensures { Copied bytes.now words.old words.new result }
 {
     let count = bytes.len() / 4;
-    let mut i = 0;
-    while i < count {
+    for i in 0..count {
         words[i] = word(bytes, 4 * i);
-        i += 1;
     }
     count
 }
@@ -94,10 +69,9 @@ fn renew_node(node: &mut [u32; 66], count: usize)
     ensures { Renews node.old count node.new }
 {
     let fields = field_count(Head { word: node[0] }, count - 1);
-    let mut i = 0;
-    while i < fields {
-        i += 1;
-        node[i] = renewed(node[i]);
+    for i in 0..fields {
+        let at = i + 1;
+        node[at] = renewed(node[at]);
     }
 }
 
@@ -122,25 +96,19 @@ fn add_node(
     names: usize,
     node: &[u32],
     filter: &mut [u64; 2048],
-) -> Interned
+) -> Result<(u32, Counters), Refusal>
     requires under { Under names words.old starts.old c }
     requires covers_lent { CoversLent words.old starts.old c filter.old }
     ensures adds_node { AddsNode names words.old starts.old c node.now words.new
         starts.new result }
     ensures covers_after { CoversAfter words.new starts.new result filter.new }
 {
-    let number = fault(node, c.nodes, names);
-    if number != 0 {
-        return Interned::Refused(number);
-    }
-    let interned = intern_filtered(words, starts, c, node, filter);
-    let Interned::Node(n, d) = interned else {
-        return interned;
-    };
+    check_node(node, c.nodes, names)?;
+    let (n, d) = intern_filtered(words, starts, c, node, filter)?;
     if wide(n) < c.nodes {
-        return Interned::Refused(10);
+        return Err(Refusal::MalformedSheet);
     }
-    Interned::Node(n, d)
+    Ok((n, d))
 }
 
 // Reads the node whose head stands at `at`.
@@ -153,24 +121,18 @@ fn read_node(
     c: Counters,
     names: usize,
     filter: &mut [u64; 2048],
-) -> Nodes
+) -> Result<(usize, Counters), Refusal>
     requires ready { Ready bytes.now at names words.old starts.old c }
     requires covers_lent { CoversLent words.old starts.old c filter.old }
     ensures stores_node { StoresNode layout bytes.now at names words.old starts.old c words.new
         starts.new result }
     ensures covers_nodes { CoversNodes words.new starts.new result filter.new }
 {
-    let place = node_end(bytes, at);
-    let Place::At(end) = place else {
-        return Nodes::Refused(place.refusal());
-    };
+    let end = node_end(bytes, at)?;
     let mut node = [0u32; 66];
     let count = copy_node(layout, &bytes[at..end], &mut node);
-    let interned = add_node(words, starts, c, names, &node[..count], filter);
-    let Interned::Node(_, d) = interned else {
-        return Nodes::Refused(interned.refusal());
-    };
-    Nodes::To(end, d)
+    let (_, d) = add_node(words, starts, c, names, &node[..count], filter)?;
+    Ok((end, d))
 }
 
 // Reads so many nodes from `first` on into memory that holds none.
@@ -182,23 +144,18 @@ pub(crate) fn read_nodes(
     starts: &mut [u32],
     names: usize,
     count: usize,
-) -> Nodes
+) -> Result<(usize, Counters), Refusal>
     requires { ReadyEmpty bytes.now first names words.old starts.old }
     ensures { StoresNodes layout bytes.now first names count words.old starts.old
         words.new starts.new result }
 {
     let mut at = first;
     let mut c = Counters { nodes: 0, words: 0 };
-    let mut left = count;
     let mut filter = [0u64; 2048];
-    while left > 0 {
-        let next = read_node(layout, bytes, at, words, starts, c, names, &mut filter);
-        let Nodes::To(end, d) = next else {
-            return next;
-        };
+    for _ in 0..count {
+        let (end, d) = read_node(layout, bytes, at, words, starts, c, names, &mut filter)?;
         at = end;
         c = d;
-        left -= 1;
     }
-    Nodes::To(at, c)
+    Ok((at, c))
 }

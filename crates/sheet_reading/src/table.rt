@@ -1,53 +1,48 @@
 // The name table of a sheet.
 ghost use Rattle.sheet_reading.specs.Inner.Steps.{Here, ReadsName, ReadsNames};
 
-use crate::bytes::Place;
-use names::{follows, wide};
+use names::follows;
+use types::Refusal;
 
 // Where the name ends whose length byte stands at `at`, if it may follow the previous one.
-fn read_name(bytes: &[u8], previous: &[u8], at: usize) -> Place
+fn read_name(bytes: &[u8], previous: &[u8], at: usize) -> Result<usize, Refusal>
     requires { Here bytes.now at }
     ensures { ReadsName bytes.now previous.now at result }
 {
     if at >= bytes.len() {
-        return Place::Refused(10);
+        return Err(Refusal::MalformedSheet);
     }
     let length = bytes[at];
     if length < 1 {
-        return Place::Refused(1);
+        return Err(Refusal::BadTable);
     }
     if length > 64 {
-        return Place::Refused(1);
+        return Err(Refusal::BadTable);
     }
     let start = at + 1;
-    let size = wide(length);
+    let size = usize::from(length);
     if bytes.len() - start < size {
-        return Place::Refused(10);
+        return Err(Refusal::MalformedSheet);
     }
     let end = start + size;
     if follows(previous, length, &bytes[start..end]) {
-        Place::At(end)
+        Ok(end)
     } else {
-        Place::Refused(1)
+        Err(Refusal::BadTable)
     }
 }
 
 // Where the table of so many names ends that begins at `first`. The last name read is `bytes[from..at]`.
-pub(crate) fn read_names(bytes: &[u8], first: usize, count: usize) -> Place
+pub(crate) fn read_names(bytes: &[u8], first: usize, count: usize) -> Result<usize, Refusal>
     requires { Here bytes.now first }
     ensures { ReadsNames bytes.now first count result }
 {
     let mut from = first;
     let mut at = first;
-    let mut left = count;
-    while left > 0 {
-        let next = read_name(bytes, &bytes[from..at], at);
-        let Place::At(end) = next else {
-            return next;
-        };
+    for _ in 0..count {
+        let end = read_name(bytes, &bytes[from..at], at)?;
         from = at + 1;
         at = end;
-        left -= 1;
     }
-    Place::At(at)
+    Ok(at)
 }

@@ -11,7 +11,10 @@ use lib.Dec.{eqb, leb, ltb}
 use borrow.Author.Tests.{leb-true, ltb-true, eqb-true}
 use Rattle.words.specs.declared.Layout.{Layout}
 use Rattle.words.specs.declared.Layout.TheVariants as layout
-use Rattle.types.specs.Out.{Out, ok, refuse, ◌>>=◌}
+use Rattle.std.specs.Prelude.{Ok, Err}
+use Rattle.types.specs.declared.refusal.Refusal.{Refusal}
+use Rattle.types.specs.declared.refusal.Refusal.TheVariants as refusal
+use Rattle.types.specs.Out.{Out, ◌>>=◌}
 use Rattle.types.specs.Node.{Node, encode_in, encode, below, decode_in}
 use Rattle.types.specs.Arena.{Arena, find, absent, sound}
 use Rattle.types.specs.Memory.{flat_in, flat}
@@ -33,22 +36,22 @@ use Rattle.sheet_writing.proofs.Numbers.{below_parts, below_take, below_drop, by
 -- ---- an answer that is a value came through every step and every test
 pub record Steps {A B : Type 0} (o : Out A) (f : A → Out B) (v : B) : Type 0 where
   pub first : A
-  pub is : o ≡ ok first
-  pub next : f first ≡ ok v
+  pub is : o ≡ Ok first
+  pub next : f first ≡ Ok v
 
-pub steps : {A B : Type 0} (o : Out A) (f : A → Out B) (v : B) → (o >>= f) ≡ ok v → Steps o f v
+pub steps : {A B : Type 0} (o : Out A) (f : A → Out B) (v : B) → (o >>= f) ≡ Ok v → Steps o f v
 unfolding ◌>>=◌
-steps (ok a) f v e = record { first = a; is = refl; next = e }
-steps (refuse n) f v e = absurd (never_refused e refl)
+steps (Ok a) f v e = record { first = a; is = refl; next = e }
+steps (Err n) f v e = absurd (never_refused e refl)
 
-pub passed : {A : Type 0} (n : ℕ) (t : Bool) (o : Out A) (v : A) → elim t as (λ _. Out A) [ false ↦ refuse n | true ↦ o ] ≡ ok v → (t ≡ true) × (o ≡ ok v)
+pub passed : {A : Type 0} (n : Refusal) (t : Bool) (o : Out A) (v : A) → elim t as (λ _. Out A) [ false ↦ Err n | true ↦ o ] ≡ Ok v → (t ≡ true) × (o ≡ Ok v)
 passed n true o v e = (refl, e)
 passed n false o v e = absurd (never_refused e refl)
 
 -- ---- the opening
-several_is : (k : ℕ) (bs : List ℕ) (v : List ℕ × List ℕ) → several k bs ≡ ok v → (k ≤ length bs) × (◌≡◌ {A = List ℕ × List ℕ} (take k bs, drop k bs) v)
+several_is : (k : ℕ) (bs : List ℕ) (v : List ℕ × List ℕ) → several k bs ≡ Ok v → (k ≤ length bs) × (◌≡◌ {A = List ℕ × List ℕ} (take k bs, drop k bs) v)
 unfolding several
-several_is k bs v e = let p = passed 10 (leb k (length bs)) (ok (take k bs, drop k bs)) v e in (leb-true k (length bs) p.0, same_value p.1)
+several_is k bs v e = let p = passed refusal.MalformedSheet (leb k (length bs)) (Ok (take k bs, drop k bs)) v e in (leb-true k (length bs) p.0, same_value p.1)
 
 opening_value : (bs : List ℕ) → below 256 bs ≡ true → length bs ≡ 6 → opening_bytes (value (take 2 bs)) (value (take 2 (drop 2 bs))) (value (take 2 (drop 4 bs))) ≡ bs
 unfolding opening_bytes
@@ -61,10 +64,10 @@ opening_value bs e l =
         let k : length (take 2 (drop i bs)) ≡ 2 = length-take-le 2 (drop i bs) (omega (arith, length-drop i bs, l, h)) in
         ap (λ (j : ℕ). number_bytes j (value (take 2 (drop i bs)))) (sym k) ∙ bytes_back (take 2 (drop i bs)) (below_take 256 2 (drop i bs) (below_drop 256 i bs e))
 
-opening_is : (bs : List ℕ) (v : Opening × List ℕ) → below 256 bs ≡ true → opening bs ≡ ok v → bs ≡ opening_bytes v.0.names v.0.nodes v.0.root ++ v.1
+opening_is : (bs : List ℕ) (v : Opening × List ℕ) → below 256 bs ≡ true → opening bs ≡ Ok v → bs ≡ opening_bytes v.0.names v.0.nodes v.0.root ++ v.1
 unfolding opening
 opening_is bs v e p =
-    let S = steps (several 6 bs) (λ (r : List ℕ × List ℕ). ok (read r.0, r.1)) v p in
+    let S = steps (several 6 bs) (λ (r : List ℕ × List ℕ). Ok (read r.0, r.1)) v p in
     let q = several_is 6 bs S.first S.is in
     subst (λ (x : Opening × List ℕ). bs ≡ opening_bytes x.0.names x.0.nodes x.0.root ++ x.1) ((λ i. (read (q.1 i).0, (q.1 i).1)) ∙ same_value S.next)
     (sym (take-append-drop 6 bs) ∙ ap (λ (l : List ℕ). l ++ drop 6 bs) (sym (opening_value (take 6 bs) (below_take 256 6 bs e) (length-take-le 6 bs q.0))))
@@ -89,7 +92,7 @@ record NodesAre (l : Layout) (lw ls table k : ℕ) (a : Arena) (bs : List ℕ) (
   pub room : has_room lw ls v.0 ≡ true
 
 module _ (l : Layout) (lw ls table : ℕ) where
-  adds : (ws : List ℕ) (a b : Arena) → sound table a ≡ true → added l lw ls table ws a ≡ ok b → Adds l lw ls table ws a b
+  adds : (ws : List ℕ) (a b : Arena) → sound table a ≡ true → added l lw ls table ws a ≡ Ok b → Adds l lw ls table ws a b
   unfolding added placed
   adds ws a b h e = go (find x a) refl S.next
     where
@@ -99,10 +102,10 @@ module _ (l : Layout) (lw ls table : ℕ) where
       x : Node
       x = S.first
 
-      go : (o : Option ℕ) → find x a ≡ o → elim o as (λ _. Out Arena) [ some n ↦ refuse 10 | none ↦ elim (has_room lw ls (x ∷ a)) as (λ _. Out Arena) [ false ↦ refuse 7 | true ↦ ok (x ∷ a) ] ] ≡ ok b → Adds l lw ls table ws a b
+      go : (o : Option ℕ) → find x a ≡ o → elim o as (λ _. Out Arena) [ some n ↦ Err refusal.MalformedSheet | none ↦ elim (has_room lw ls (x ∷ a)) as (λ _. Out Arena) [ false ↦ Err refusal.NoRoom | true ↦ Ok (x ∷ a) ] ] ≡ Ok b → Adds l lw ls table ws a b
       go (some n) f q = absurd (never_refused q refl)
       go none f q =
-          let p = passed 7 (has_room lw ls (x ∷ a)) (ok (x ∷ a)) b q in
+          let p = passed refusal.NoRoom (has_room lw ls (x ∷ a)) (Ok (x ∷ a)) b q in
           let N = ok_decode_in l table (length a) ws x S.is in
           let i : x ∷ a ≡ b = same_value p.1 in
           record {
@@ -113,13 +116,13 @@ module _ (l : Layout) (lw ls table : ℕ) where
             room = subst (λ (c : Arena). has_room lw ls c ≡ true) i p.0;
           }
 
-  node_is : (a : Arena) (bs : List ℕ) (v : Arena × List ℕ) → below 256 bs ≡ true → sound table a ≡ true → node l lw ls table a bs ≡ ok v → NodesAre l lw ls table 1 a bs v
+  node_is : (a : Arena) (bs : List ℕ) (v : Arena × List ℕ) → below 256 bs ≡ true → sound table a ≡ true → node l lw ls table a bs ≡ Ok v → NodesAre l lw ls table 1 a bs v
   unfolding node flat_in
   node_is a bs v e h p =
-      let S = steps (node_words bs) (λ (r : List ℕ × List ℕ). added l lw ls table r.0 a >>= λ (b : Arena). ok (b, r.1)) v p in
+      let S = steps (node_words bs) (λ (r : List ℕ × List ℕ). added l lw ls table r.0 a >>= λ (b : Arena). Ok (b, r.1)) v p in
       let ws = S.first.0 in
       let u = S.first.1 in
-      let T = steps (added l lw ls table ws a) (λ (b : Arena). ok (b, u)) v S.next in
+      let T = steps (added l lw ls table ws a) (λ (b : Arena). Ok (b, u)) v S.next in
       let W = words_are bs S.first S.is in
       let A = adds ws a T.first h T.is in
       let k = 4 * W.count in
@@ -135,7 +138,7 @@ module _ (l : Layout) (lw ls table : ℕ) where
         room = A.room;
       })
 
-  nodes_are : (k : ℕ) (a : Arena) (bs : List ℕ) (v : Arena × List ℕ) → below 256 bs ≡ true → sound table a ≡ true → has_room lw ls a ≡ true → nodes l lw ls table k a bs ≡ ok v → NodesAre l lw ls table k a bs v
+  nodes_are : (k : ℕ) (a : Arena) (bs : List ℕ) (v : Arena × List ℕ) → below 256 bs ≡ true → sound table a ≡ true → has_room lw ls a ≡ true → nodes l lw ls table k a bs ≡ Ok v → NodesAre l lw ls table k a bs v
   unfolding nodes
   nodes_are zero a bs v e h r p = subst (NodesAre l lw ls table 0 a bs) (same_value p) (record { front = refl; rest = e; count = omega arith; good = h; room = r })
   nodes_are (suc k) a bs v e h r p =
@@ -169,15 +172,15 @@ contents_from l o bs ns u a rest few short M A =
       room = A.room;
     }
 
-contents_are : (l : Layout) (o : Opening) (bs : List ℕ) (v : Sheet × List ℕ) → below 256 bs ≡ true → length bs ≤ 65536 → contents l o bs ≡ ok v → ContentsAre l o bs v
+contents_are : (l : Layout) (o : Opening) (bs : List ℕ) (v : Sheet × List ℕ) → below 256 bs ≡ true → length bs ≤ 65536 → contents l o bs ≡ Ok v → ContentsAre l o bs v
 unfolding contents after_names table has_room sound all_good rising
 contents_are l o bs v e short p =
-    let few = passed 1 (leb o.names (most_names l)) (names o.names [] bs >>= after_names l o) v p in
+    let few = passed refusal.BadTable (leb o.names (most_names l)) (names o.names [] bs >>= after_names l o) v p in
     let N = steps (names o.names [] bs) (after_names l o) v few.1 in
     let ns = N.first.0 in
     let u = N.first.1 in
     let M = names_are o.names [] bs N.first refl refl N.is in
-    let D = steps (nodes l 16384 4096 o.names o.nodes [] u) (λ (a : Arena × List ℕ). ok (record { names = ns; arena = a.0; root = o.root }, a.1)) v N.next in
+    let D = steps (nodes l 16384 4096 o.names o.nodes [] u) (λ (a : Arena × List ℕ). Ok (record { names = ns; arena = a.0; root = o.root }, a.1)) v N.next in
     let A = nodes_are l 16384 4096 o.names o.nodes [] u D.first (below_parts 256 (table ns) u (rw M.front at e)).1 refl refl D.is in
     subst (ContentsAre l o bs) (same_value D.next) (contents_from l o bs ns u D.first.0 D.first.1 (leb-true o.names (most_names l) few.0) short M A)
 
@@ -232,7 +235,7 @@ good_sheet l o u s rest K i h =
       few_bytes = h;
     }
 
-pub accepted : (l : Layout) (input : List ℕ) (sh : Sheet) → below 256 input ≡ true → read_sheet_in l input ≡ ok sh → WrittenAs l input sh
+pub accepted : (l : Layout) (input : List ℕ) (sh : Sheet) → below 256 input ≡ true → read_sheet_in l input ≡ Ok sh → WrittenAs l input sh
 unfolding read_sheet_in ended
 accepted l input sh e p =
     let O = steps (opening (take 65536 input)) (λ (o : Opening × List ℕ). contents l o.0 o.1 >>= ended (length input)) sh p in
@@ -241,8 +244,8 @@ accepted l input sh e p =
     let C = steps (contents l o u) (ended (length input)) sh O.next in
     let s = C.first.0 in
     let rest = C.first.1 in
-    let last = passed 10 (eqb (length rest) 0 && leb (length input) 65536) (elim (ltb s.root (length s.arena)) as (λ _. Out Sheet) [ false ↦ refuse 6 | true ↦ ok s ]) sh C.next in
-    let there = passed 6 (ltb s.root (length s.arena)) (ok s) sh last.1 in
+    let last = passed refusal.MalformedSheet (eqb (length rest) 0 && leb (length input) 65536) (elim (ltb s.root (length s.arena)) as (λ _. Out Sheet) [ false ↦ Err refusal.NoSuchRoot | true ↦ Ok s ]) sh C.next in
+    let there = passed refusal.NoSuchRoot (ltb s.root (length s.arena)) (Ok s) sh last.1 in
     let none_left = and_true (eqb (length rest) 0) (leb (length input) 65536) last.0 in
     let few = leb-true (length input) 65536 none_left.1 in
     let all = take_all 65536 input few in

@@ -4,6 +4,9 @@ use mathlib.Core.Path.{◌≡◌, refl, sym, ap, ◌∙◌, subst}
 use mathlib.Core.List.{List, ◌++◌}
 use lib.ListN.{length, take}
 use lib.Seq.{take_at, length-take-le}
+use Rattle.std.specs.Prelude.{Ok, Err}
+use Rattle.types.specs.declared.refusal.Refusal.TheVariants as refusal
+use Rattle.types.specs.declared.refusal.Refusal.{Refusal}
 use Rattle.types.specs.Out.{Out, ◌>>=◌}
 use Rattle.types.specs.Arena.{Arena}
 use Rattle.types.specs.Memory.{flat, Holds}
@@ -12,9 +15,7 @@ use Rattle.types.proofs.Memories.{unique}
 use Rattle.types.proofs.Addresses.{word_room}
 use Rattle.names.specs.Table.{table, split}
 use Rattle.names.proofs.Tables.{split_is, names_of_is}
-use Rattle.soundness.specs.Inner.Sound.{lent_reply, judged_out}
-use Rattle.soundness.specs.declared.Judged.{Judged}
-use Rattle.soundness.specs.declared.Judged.TheVariants as verdict
+use Rattle.soundness.specs.Inner.Sound.{lent_reply}
 use Rattle.soundness.proofs.Verdicts.{lent_names, lent_known}
 use Rattle.walks.specs.Asked.{asking}
 use Rattle.walks.specs.Inner.Asked.{Says, Answers}
@@ -22,8 +23,6 @@ use Rattle.walks.proofs.Asking.{root_out, root_in, ask_refused, ask_done}
 use Rattle.sheet_writing.specs.Bytes.{words_bytes, opening_bytes, sheet_bytes}
 use Rattle.sheet_writing.specs.Reply.{bytes_with, fitting, reply_of, write_sheet_reply, left}
 use Rattle.sheet_writing.specs.Inner.{WritesParts, Known, WritesRoot}
-use Rattle.sheet_writing.specs.declared.Written.{Written}
-use Rattle.sheet_writing.specs.declared.Written.TheVariants as written
 
 -- ---- the words in use are the arena's
 used_words : {k : ℕ} {w s : List ℕ} {c : Counters} {a : Arena} → Holds k w s c a → take c.words w ≡ flat a
@@ -47,11 +46,11 @@ module _ {t w s : List ℕ} {c : Counters} {n : ℕ} (K : Known t w s c n) where
 
   -- ---- after 6
   module _ {root x : ℕ} (e : x ≡ root) {b : List ℕ} where
-    pub root_six : c.nodes ≤ x → WritesRoot t w s c root b b (written.Refused 6)
+    pub root_six : c.nodes ≤ x → WritesRoot t w s c root b b (Err refusal.NoSuchRoot)
     unfolding reply_of ◌>>=◌
     root_six h = record { is = λ k a H. ap (λ (o : Out (List ℕ)). reply_of b (o >>= fitting b)) ((root_out (bytes_with (split t)) (subst (λ (i : ℕ). c.nodes ≤ i) e h)).is k a H) }
 
-    pub root_sheet : x < c.nodes → {b' : List ℕ} {r : Written} → WritesParts t (take c.words w) n c.nodes root b b' r → WritesRoot t w s c root b b' r
+    pub root_sheet : x < c.nodes → {b' : List ℕ} {r : Out ℕ} → WritesParts t (take c.words w) n c.nodes root b b' r → WritesRoot t w s c root b b' r
     unfolding ◌>>=◌
     root_sheet h P = record {
       is = λ k a H.
@@ -61,20 +60,20 @@ module _ {t w s : List ℕ} {c : Counters} {n : ℕ} (K : Known t w s c n) where
           ∙ ap (λ (o : Out (List ℕ)). reply_of b (o >>= fitting b)) ((root_in q (subst (λ (i : ℕ). i < c.nodes) e h) S).is k a H);
     }
 
--- ---- after 1 and 2
-module _ (t w s : List ℕ) (c : Counters) {j : Judged} (e : judged_out j ≡ lent_reply t w s c) where
-  pub known : {n : ℕ} → j ≡ verdict.Names n → Known t w s c n
-  known p = let L = lent_names t w s c e p in record { names = L.names; table = names_of_is t L.names L.is; many = L.count; lent = lent_known t w s c e p }
+-- ---- after the verdict
+module _ (t w s : List ℕ) (c : Counters) where
+  pub known : {n : ℕ} → Ok n ≡ lent_reply t w s c → Known t w s c n
+  known e = let L = lent_names t w s c e in record { names = L.names; table = names_of_is t L.names L.is; many = L.count; lent = lent_known t w s c e }
 
   module _ (root : ℕ) (b : List ℕ) where
-    pub sheet_refused : {n : ℕ} → j ≡ verdict.Refused n → left (written.Refused n) b ≡ write_sheet_reply t w s c root b
+    pub sheet_refused : {e : Refusal} → Err e ≡ lent_reply t w s c → left (Err e) b ≡ write_sheet_reply t w s c root b
     unfolding write_sheet_reply
-    sheet_refused p = ap (λ (o : Out (List ℕ)). reply_of b (o >>= fitting b)) (ask_refused (bytes_with (split t)) t w s c root e p)
+    sheet_refused e = ap (λ (o : Out (List ℕ)). reply_of b (o >>= fitting b)) (ask_refused (bytes_with (split t)) t w s c root e)
 
-    pub sheet_done : {n : ℕ} → j ≡ verdict.Names n → {b' : List ℕ} {r : Written} → WritesRoot t w s c root b b' r → left r b' ≡ write_sheet_reply t w s c root b
+    pub sheet_done : {n : ℕ} → Ok n ≡ lent_reply t w s c → {b' : List ℕ} {r : Out ℕ} → WritesRoot t w s c root b b' r → left r b' ≡ write_sheet_reply t w s c root b
     unfolding write_sheet_reply
-    sheet_done p D =
-        let L = lent_known t w s c e p in
+    sheet_done e D =
+        let L = lent_known t w s c e in
         let q = bytes_with (split t) in
         let A : Answers q w s c root (asking q root L.view) = record { is = λ k a H. ap (asking q root) (unique L.holds H) } in
-        D.is _ L.view L.holds ∙ ap (λ (o : Out (List ℕ)). reply_of b (o >>= fitting b)) (ask_done q t w s c root e p refl A)
+        D.is _ L.view L.holds ∙ ap (λ (o : Out (List ℕ)). reply_of b (o >>= fitting b)) (ask_done q t w s c root e refl A)

@@ -13,7 +13,8 @@ use Rattle.words.specs.declared.Layout.{Layout}
 use Rattle.words.specs.declared.Layout.TheVariants as layout
 use Rattle.words.specs.Words.{head_count, HeadFits, name_bits}
 use Rattle.words.proofs.Words.{head_made, field_made}
-use Rattle.types.specs.Out.{Out, ok, ◌>>=◌}
+use Rattle.std.specs.Prelude.{Ok}
+use Rattle.types.specs.Out.{Out, ◌>>=◌}
 use Rattle.types.specs.Kind.{disc}
 use Rattle.types.specs.Node.{Field, field, primitive, list, lambda, attrset, named, Tag, members, bound, var, neg, form, Node, node, kind, data_of, field_names, child_words_in, body_in, body, head_of, encode, encode_in, below, formed_in}
 use Rattle.types.specs.Fault.{head_fits, fits_in}
@@ -80,18 +81,18 @@ module _ (l : Layout) (x : Node) (e : formed_in l x ≡ true) (rest : List ℕ) 
   unfolding fits_in encode_in
   head_good = (and_true (head_fits (head_of x)) _ (fits_encode_in l x e)).0
 
-  measured_back : measured (words_bytes (encode_in l x) ++ rest) ≡ ok (length (encode_in l x))
+  measured_back : measured (words_bytes (encode_in l x) ++ rest) ≡ Ok (length (encode_in l x))
   measured_back =
       measured_good (words_bytes (encode_in l x) ++ rest) (omega (arith, long, length_encode_in l x)) (ap head_fits head_back ∙ head_good)
-      ∙ ap (λ (h : ℕ). ok (suc (head_count h))) head_back
-      ∙ ap (λ (n : ℕ). ok (suc n)) (encode_count_in l x e) ∙ ap ok (sym (length_encode_in l x))
+      ∙ ap (λ (h : ℕ). Ok (suc (head_count h))) head_back
+      ∙ ap (λ (n : ℕ). Ok (suc n)) (encode_count_in l x e) ∙ ap Ok (sym (length_encode_in l x))
 
-  pub words_read : node_words (words_bytes (encode_in l x) ++ rest) ≡ ok (encode_in l x, rest)
+  pub words_read : node_words (words_bytes (encode_in l x) ++ rest) ≡ Ok (encode_in l x, rest)
   words_read =
       let n = length (encode_in l x) in
       words_whole (words_bytes (encode_in l x) ++ rest) measured_back (omega (arith, long))
-      ∙ (λ i. ok (words n (take_at (words_bytes (encode_in l x)) rest (4 * n) (length_words (encode_in l x)) i), drop_at (words_bytes (encode_in l x)) rest (4 * n) (length_words (encode_in l x)) i))
-      ∙ ap (λ (u : List ℕ). ok (u, rest)) (words_back (encode_in l x) (encode_small l x e))
+      ∙ (λ i. Ok (words n (take_at (words_bytes (encode_in l x)) rest (4 * n) (length_words (encode_in l x)) i), drop_at (words_bytes (encode_in l x)) rest (4 * n) (length_words (encode_in l x)) i))
+      ∙ ap (λ (u : List ℕ). Ok (u, rest)) (words_back (encode_in l x) (encode_small l x e))
 
 -- ---- nodes put behind the others
 pub none_found : (o : Option ℕ) → absent o ≡ true → o ≡ none
@@ -100,18 +101,18 @@ none_found (some n) e = absurd (true_false (sym e))
 
 module _ (lw ls table : ℕ) where
   module _ (x : Node) (s : Arena) (h : sound table (x ∷ s) ≡ true) (r : has_room lw ls (x ∷ s) ≡ true) where
-    added_back : added layout.New lw ls table (encode x) s ≡ ok (x ∷ s)
+    added_back : added layout.New lw ls table (encode x) s ≡ Ok (x ∷ s)
     unfolding added placed
     added_back =
         ap (λ (o : Out Node). o >>= placed lw ls s) (decode_ok table (length s) (encode x) x (record { words = refl; good = sound_well table x s h }))
         ∙ rw (placed, none_found (find x s) (sound_fresh table x s h), r)
 
-    node_back : (rest : List ℕ) → next_node layout.New lw ls table s (words_bytes (encode x) ++ rest) ≡ ok (x ∷ s, rest)
+    node_back : (rest : List ℕ) → next_node layout.New lw ls table s (words_bytes (encode x) ++ rest) ≡ Ok (x ∷ s, rest)
     unfolding next_node
     node_back rest =
-        ap (λ (o : Out (List ℕ × List ℕ)). o >>= λ (v : List ℕ × List ℕ). added layout.New lw ls table v.0 s >>= λ (b : Arena). ok (b, v.1))
+        ap (λ (o : Out (List ℕ × List ℕ)). o >>= λ (v : List ℕ × List ℕ). added layout.New lw ls table v.0 s >>= λ (b : Arena). Ok (b, v.1))
         (words_read layout.New x (well_parts table (length s) x (sound_well table x s h)).formed_so rest)
-        ∙ ap (λ (o : Out Arena). o >>= λ (b : Arena). ok (b, rest)) added_back
+        ∙ ap (λ (o : Out Arena). o >>= λ (b : Arena). Ok (b, rest)) added_back
 
     pub room_before : has_room lw ls s ≡ true
     unfolding has_room flat
@@ -131,7 +132,7 @@ module _ (lw ls table : ℕ) where
       ∙ nodes_after s (suc k) (words_bytes (encode x) ++ rest) (sound_tail table x s h) (room_before x s h r)
       ∙ ap (λ (o : Out (Arena × List ℕ)). o >>= λ (v : Arena × List ℕ). nodes layout.New lw ls table k v.0 v.1) (node_back x s h r rest)
 
-  pub nodes_back : (a : Arena) → sound table a ≡ true → has_room lw ls a ≡ true → nodes layout.New lw ls table (length a) [] (words_bytes (flat a)) ≡ ok (a, [])
+  pub nodes_back : (a : Arena) → sound table a ≡ true → has_room lw ls a ≡ true → nodes layout.New lw ls table (length a) [] (words_bytes (flat a)) ≡ Ok (a, [])
   unfolding nodes
   nodes_back a h r =
       let z : length a ≡ length a + 0 = omega arith in

@@ -9,7 +9,10 @@ use lib.Seq.{take_at}
 use lib.Dec.{leb, ltb}
 use borrow.Author.Tests.{leb-true, ltb-true}
 use Rattle.words.specs.declared.Layout.TheVariants as layout
-use Rattle.types.specs.Out.{Out, ok, refuse, required, ◌>>=◌}
+use Rattle.std.specs.Prelude.{Ok, Err}
+use Rattle.types.specs.declared.refusal.Refusal.{Refusal}
+use Rattle.types.specs.declared.refusal.Refusal.TheVariants as refusal
+use Rattle.types.specs.Out.{Out, required, ◌>>=◌}
 use Rattle.types.specs.Arena.{Arena}
 use Rattle.types.specs.Memory.{Holds, arena_of}
 use Rattle.types.specs.Reply.{tabled, judged, rooted}
@@ -31,25 +34,25 @@ use Rattle.sheet_writing.proofs.Accepting.{steps, passed, accepted}
 record There {A B : Type 0} (o : Option A) (f : A → Out B) (v : B) : Type 0 where
   pub first : A
   pub is : o ≡ some first
-  pub next : f first ≡ ok v
+  pub next : f first ≡ Ok v
 
-there : {A B : Type 0} (e : ℕ) (o : Option A) (f : A → Out B) (v : B) → required e o f ≡ ok v → There o f v
+there : {A B : Type 0} (e : Refusal) (o : Option A) (f : A → Out B) (v : B) → required e o f ≡ Ok v → There o f v
 unfolding required
 there e (some a) f v p = record { first = a; is = refl; next = p }
 there e none f v p = absurd (never_refused p refl)
 
 record Put (b : List ℕ) (o : Out (List ℕ)) (n : ℕ) (b' : List ℕ) : Type 0 where
   pub sheet : List ℕ
-  pub is : o ≡ ok sheet
+  pub is : o ≡ Ok sheet
   pub front : take n b' ≡ sheet
 
-put : (b : List ℕ) (o : Out (List ℕ)) (n : ℕ) (b' : List ℕ) → reply_of b o ≡ reply (ok n) b' → Put b o n b'
+put : (b : List ℕ) (o : Out (List ℕ)) (n : ℕ) (b' : List ℕ) → reply_of b o ≡ reply (Ok n) b' → Put b o n b'
 unfolding reply_of
-put b (ok x) n b' p =
+put b (Ok x) n b' p =
     let l : length x ≡ n = cc in
     let e : x ++ drop (length x) b ≡ b' = cc in
     record { sheet = x; is = refl; front = ap (take n) (sym e) ∙ take_at x (drop (length x) b) n l }
-put b (refuse e) n b' p = let z : ◌≡◌ {A = ℕ} 0 1 = cc in absurd (omega arith)
+put b (Err e) n b' p = let z : ◌≡◌ {A = ℕ} 0 1 = cc in absurd (omega arith)
 
 -- ---- what was lent is a good sheet
 module _ (t w s : List ℕ) (c : Counters) (root : ℕ) (b : List ℕ) (n : ℕ) (b' : List ℕ) where
@@ -67,24 +70,24 @@ module _ (t w s : List ℕ) (c : Counters) (root : ℕ) (b : List ℕ) (n : ℕ)
       } in
       record { names = ns; arena = a; table = T; holds = H; is = rw (← p) (read_back (record { names = ns; arena = a; root = root }) G) }
 
-  lent_again : (x : List ℕ) → ask_reply (bytes_with (split t)) t w s c root ≡ ok x → length x ≤ 65536 → ReadAgain t w s c root x
+  lent_again : (x : List ℕ) → ask_reply (bytes_with (split t)) t w s c root ≡ Ok x → length x ≤ 65536 → ReadAgain t w s c root x
   unfolding ask_reply tabled judged asking rooted
   lent_again x e h =
       let q = bytes_with (split t) in
-      let N = there 1 (names_of t) (λ (ns : List Name). judged (length ns) w s c (asking q root)) x e in
+      let N = there refusal.BadTable (names_of t) (λ (ns : List Name). judged (length ns) w s c (asking q root)) x e in
       let ns = N.first in
-      let A = there 2 (arena_of (length ns) w s c) (asking q root) x N.next in
+      let A = there refusal.UnsoundArena (arena_of (length ns) w s c) (asking q root) x N.next in
       let a = A.first in
-      let inside = passed 6 (ltb root (length a)) (ok (q a root)) x A.next in
+      let inside = passed refusal.NoSuchRoot (ltb root (length a)) (Ok (q a root)) x A.next in
       again ns a (names_of_is t ns N.is) (holds_arena_of A.is) (ltb-true root (length a) inside.0) x (same_value inside.1) h
 
-  fitting_is : (x y : List ℕ) → fitting b x ≡ ok y → (length x ≤ 65536) × (x ≡ y)
+  fitting_is : (x y : List ℕ) → fitting b x ≡ Ok y → (length x ≤ 65536) × (x ≡ y)
   unfolding fitting
   fitting_is x y e =
-      let p = passed 9 (leb (length x) (min (length b) 65536)) (ok x) y e in
+      let p = passed refusal.TextTooLong (leb (length x) (min (length b) 65536)) (Ok x) y e in
       (omega (arith, leb-true (length x) (min (length b) 65536) p.0), same_value p.1)
 
-  read_again : write_sheet_reply t w s c root b ≡ reply (ok n) b' → ReadAgain t w s c root (take n b')
+  read_again : write_sheet_reply t w s c root b ≡ reply (Ok n) b' → ReadAgain t w s c root (take n b')
   unfolding write_sheet_reply
   read_again e =
       let o = ask_reply (bytes_with (split t)) t w s c root in

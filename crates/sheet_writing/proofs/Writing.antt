@@ -9,14 +9,16 @@ use lib.ListN.{length, get_or, take, drop, length-append}
 use lib.Seq.{take-suc, take_all, take-length}
 use lib.Dec.{leb}
 use borrow.Author.Tests.{le-leb, lt-leb, leb-true, leb-false, not-true, not-false}
-use Rattle.types.specs.Out.{ok}
+use mir.Syntax.{w32}
+use Rattle.std.specs.Prelude.{Ok, Err}
+use Rattle.std.specs.Int.{byte_at, to_be_bytes}
+use Rattle.types.specs.declared.refusal.Refusal.TheVariants as refusal
 use Rattle.appending.specs.Inner.{Writes}
 use Rattle.appending.proofs.Appending.{writes_nothing, writes_then, writes_three}
 use Rattle.display.specs.Reply.{reply}
 use Rattle.sheet_writing.specs.Bytes.{number_bytes, words_bytes, opening_bytes}
 use Rattle.sheet_writing.specs.Reply.{fitting, reply_of}
 use Rattle.sheet_writing.specs.Inner.{FitsBytes, WritesParts}
-use Rattle.sheet_writing.specs.declared.Written.TheVariants as written
 use Rattle.sheet_writing.proofs.Numbers.{length_words, words_join}
 
 -- ---- numbers, from their bytes
@@ -29,15 +31,13 @@ module _ {b : List ℕ} {count : ℕ} {b' : List ℕ} {e : ℕ} where
   unfolding opening_bytes number_bytes
   opening_written m n r q₁ q₂ q₃ q₄ q₅ q₆ = as_written (λ i. q₁ i ∷ q₂ i ∷ q₃ i ∷ q₄ i ∷ q₅ i ∷ q₆ i ∷ [])
 
-  pub word_written : {word w p₁ p₂ p₃ p₄ : ℕ} → w ≡ word → p₁ ≡ w / 16777216 % 256 → p₂ ≡ w / 65536 % 256 → p₃ ≡ w / 256 % 256 → p₄ ≡ w % 256
-      → Writes b count (p₁ ∷ p₂ ∷ p₃ ∷ p₄ ∷ []) b' e → Writes b count (number_bytes 4 word) b' e
+  pub word_written : (word : ℕ) {piece : List ℕ} → piece ≡ to_be_bytes w32 word → Writes b count piece b' e → Writes b count (number_bytes 4 word) b' e
   unfolding number_bytes
-  word_written {word} {w} {p₁} {p₂} {p₃} {p₄} v q₁ q₂ q₃ q₄ =
-      let r₁ : p₁ ≡ word / 256 / 256 / 256 % 256 = omega (arith, v, q₁) in
-      let r₂ : p₂ ≡ word / 256 / 256 % 256 = omega (arith, v, q₂) in
-      let r₃ : p₃ ≡ word / 256 % 256 = omega (arith, v, q₃) in
-      let r₄ : p₄ ≡ word % 256 = omega (arith, v, q₄) in
-      as_written (λ i. r₁ i ∷ r₂ i ∷ r₃ i ∷ r₄ i ∷ [])
+  word_written word q =
+      let r₁ : byte_at 3 word ≡ word / 256 / 256 / 256 % 256 = omega arith in
+      let r₂ : byte_at 2 word ≡ word / 256 / 256 % 256 = omega arith in
+      let r₃ : byte_at 1 word ≡ word / 256 % 256 = omega arith in
+      as_written (q ∙ (λ i. r₁ i ∷ r₂ i ∷ r₃ i ∷ word % 256 ∷ []))
 
 -- ---- i words are written
 pub record Turn (ws b : List ℕ) (count : ℕ) (b' : List ℕ) (end i : ℕ) : Type 0 where
@@ -96,12 +96,12 @@ module _ (t ws : List ℕ) (names nodes root : ℕ) (b : List ℕ) {f : Bool} (F
   told : leb (length whole) (min (length b) 65536) ≡ f
   told = ap (λ (n : ℕ). leb n (min (length b) 65536)) size ∙ sym F.is
 
-  pub parts_nine : not f ≡ true → WritesParts t ws names nodes root b b (written.Refused 9)
+  pub parts_nine : not f ≡ true → WritesParts t ws names nodes root b b (Err refusal.TextTooLong)
   unfolding fitting reply_of
   parts_nine h = record { is = sym (rw (fitting, told, not-true f h)) }
 
   pub parts_written : not f ≡ false → {x : ℕ} → x ≡ root → {b₁ : List ℕ} {m : ℕ} {b₂ : List ℕ} {n : ℕ} {b₃ : List ℕ} {e : ℕ}
-      → Writes b 0 (opening_bytes names nodes x) b₁ m → Writes b₁ m t b₂ n → Writes b₂ n (words_bytes ws) b₃ e → WritesParts t ws names nodes root b b₃ (written.Sheet e)
+      → Writes b 0 (opening_bytes names nodes x) b₁ m → Writes b₁ m t b₂ n → Writes b₂ n (words_bytes ws) b₃ e → WritesParts t ws names nodes root b b₃ (Ok e)
   unfolding fitting reply_of
   parts_written h p W U X =
       let A = writes_three (as_written (ap (opening_bytes names nodes) p) W) U X in
@@ -109,4 +109,4 @@ module _ (t ws : List ℕ) (names nodes root : ℕ) (b : List ℕ) {f : Bool} (F
       let z : 0 + length whole ≡ length whole = omega arith in
       let put = A.put l ∙ (λ i. take-length whole i ++ drop (z i) b) in
       let end = A.fits l ∙ z in
-      record { is = (λ i. reply (ok (end i)) (put i)) ∙ sym (rw (fitting, told, not-false f h)) }
+      record { is = (λ i. reply (Ok (end i)) (put i)) ∙ sym (rw (fitting, told, not-false f h)) }

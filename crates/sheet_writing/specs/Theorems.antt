@@ -1,9 +1,8 @@
 -- What is shown of the bytes of a sheet: reading takes exactly these, and gives back the sheet that they were made of, also where
 -- `write_sheet` wrote it.
-use Rattle.std.specs.Prelude.{ℕ, ◌<◌, ◌≤◌, ◌≡◌, true, List, length, take}
+use Rattle.std.specs.Prelude.{ℕ, ◌<◌, ◌≤◌, ◌≡◌, true, List, length, take, Ok}
 use Rattle.words.specs.declared.Layout.{Layout}
 use Rattle.words.specs.declared.Layout.TheVariants as layout
-use Rattle.types.specs.Out.{ok}
 use Rattle.types.specs.Node.{below}
 use Rattle.types.specs.Arena.{Arena, sound}
 use Rattle.types.specs.Memory.{flat, Holds}
@@ -35,12 +34,12 @@ pub record ReadAgain (t w s : List ℕ) (c : Counters) (root : ℕ) (input : Lis
   pub arena : Arena
   pub table : IsTable t names
   pub holds : Holds (length names) w s c arena
-  pub is : read_sheet input ≡ ok (record { names = names; arena = arena; root = root })
+  pub is : read_sheet input ≡ Ok (record { names = names; arena = arena; root = root })
 
 -- (issue 16, section 3) a good sheet is read back from its bytes; an input that is accepted consists of the bytes of the sheet that is
 -- read, in either layout; what `write_sheet` wrote, where it wasn't refused, is read as what it was lent
 pub record ReadsWritten : Type 0 where
-  pub read_back : (sh : Sheet) → GoodSheet layout.New sh → read_sheet (sheet_bytes sh) ≡ ok sh
-  pub accepted : (l : Layout) (input : List ℕ) (sh : Sheet) → below 256 input ≡ true → read_sheet_in l input ≡ ok sh → WrittenAs l input sh
+  pub read_back : (sh : Sheet) → GoodSheet layout.New sh → read_sheet (sheet_bytes sh) ≡ Ok sh
+  pub accepted : (l : Layout) (input : List ℕ) (sh : Sheet) → below 256 input ≡ true → read_sheet_in l input ≡ Ok sh → WrittenAs l input sh
   pub read_again : (t w s : List ℕ) (c : Counters) (root : ℕ) (b : List ℕ) (n : ℕ) (b' : List ℕ)
-      → write_sheet_reply t w s c root b ≡ reply (ok n) b' → ReadAgain t w s c root (take n b')
+      → write_sheet_reply t w s c root b ≡ reply (Ok n) b' → ReadAgain t w s c root (take n b')

@@ -9,16 +9,9 @@ ghost use Rattle.sheet_writing.specs.Inner.{FitsBytes, WritesParts, Known, Write
 ghost use Rattle.sheet_writing.specs.Reply.{write_sheet_reply, left};
 
 use appending::append;
-use soundness::{Judged, judge};
-use types::Counters;
+use soundness::judge;
 use types::arc_ty::wide;
-
-// The length of the sheet, or the number of a refusal.
-#[derive(Clone, Copy)]
-pub enum Written {
-    Sheet(usize),
-    Refused(u32),
-}
+use types::{Counters, Refusal};
 
 // The most bytes that a sheet may have.
 const LIMIT: usize = 65536;
@@ -49,14 +42,7 @@ fn write_opening(names: usize, nodes: usize, root: usize, bytes: &mut [u8]) -> u
 fn write_word(word: u32, bytes: &mut [u8], count: usize) -> usize
     ensures { Writes bytes.old count (number_bytes 4 word) bytes.new result }
 {
-    let w = wide(word);
-    let piece = [
-        low_byte(w / 16777216),
-        low_byte(w / 65536),
-        low_byte(w / 256),
-        low_byte(w),
-    ];
-    append(bytes, count, &piece)
+    append(bytes, count, &word.to_be_bytes())
 }
 
 // The same of words, one behind another.
@@ -64,10 +50,8 @@ pub fn write_words(words: &[u32], bytes: &mut [u8], count: usize) -> usize
     ensures { Writes bytes.old count (words_bytes words.now) bytes.new result }
 {
     let mut end = count;
-    let mut i = 0;
-    while i < words.len() {
-        end = write_word(words[i], bytes, end);
-        i += 1;
+    for word in words {
+        end = write_word(*word, bytes, end);
     }
     end
 }
@@ -97,16 +81,16 @@ fn write_parts(
     nodes: usize,
     root: u32,
     bytes: &mut [u8],
-) -> Written
+) -> Result<usize, Refusal>
     ensures { WritesParts table.now words.now names nodes root bytes.old
         bytes.new result }
 {
     if !fits_bytes(table.len(), words.len(), bytes.len()) {
-        return Written::Refused(9);
+        return Err(Refusal::TextTooLong);
     }
     let mut end = write_opening(names, nodes, wide(root), bytes);
     end = append(bytes, end, table);
-    Written::Sheet(write_words(words, bytes, end))
+    Ok(write_words(words, bytes, end))
 }
 
 // The sheet of the root after 1 and 2, which say how many names the table has.
@@ -118,13 +102,13 @@ fn write_root(
     names: usize,
     root: u32,
     bytes: &mut [u8],
-) -> Written
+) -> Result<usize, Refusal>
     requires { Known table.now words.now starts.now c names }
     ensures { WritesRoot table.now words.now starts.now c root bytes.old
         bytes.new result }
 {
     if wide(root) >= c.nodes {
-        return Written::Refused(6);
+        return Err(Refusal::NoSuchRoot);
     }
     let used = c.words;
     write_parts(table, &words[..used], names, c.nodes, root, bytes)
@@ -138,13 +122,10 @@ pub fn write_sheet(
     c: Counters,
     root: u32,
     bytes: &mut [u8],
-) -> Written
+) -> Result<usize, Refusal>
     ensures { left result bytes.new
         ≡ write_sheet_reply table.now words.now starts.now c root bytes.old }
 {
-    let lent = judge(table, words, starts, c);
-    match lent {
-        Judged::Names(names) => write_root(table, words, starts, c, names, root, bytes),
-        Judged::Refused(number) => Written::Refused(number),
-    }
+    let names = judge(table, words, starts, c)?;
+    write_root(table, words, starts, c, names, root, bytes)
 }

@@ -6,7 +6,9 @@ use mathlib.Core.List.{List, [], Memᴰ as Mem}
 use mathlib.Core.Option.{Option, none, some}
 use native.Mathlib.Omega.{arith}
 use lib.ListN.{length, get_or}
-use Rattle.types.specs.Out.{Out, refuse, ◌>>=◌}
+use Rattle.std.specs.Prelude.{Err}
+use Rattle.types.specs.declared.refusal.Refusal.TheVariants as refusal
+use Rattle.types.specs.Out.{Out, ◌>>=◌}
 use Rattle.types.specs.Node.{Polarity, Tag, members, bound, var, neg, form, Node, node, tag, children}
 use Rattle.types.specs.Arena.{Arena, at, sound, Ext}
 use Rattle.types.specs.Places.{opposite}
@@ -33,7 +35,7 @@ module _ (words starts : ℕ) where
   -- an old number is simplified alike
   pub apply_kept : (s a : Arena) → Ext s a → (n : ℕ) → n < length s → apply words starts a n ≡ apply words starts s n
   unfolding apply
-  apply_kept = ext_rec (apply_step words starts) (λ R a. refuse 6)
+  apply_kept = ext_rec (apply_step words starts) (λ R a. Err refusal.NoSuchRoot)
 
   pub step_other : (s : Arena) (x : Node) (f : ℕ → (ℕ → Bool) → Job) (R : ℕ → Bool) (a : Arena) → list_kind (tag x) ≡ none → apply_step words starts s x f R a ≡ rebuild words starts (tag x) (children x) (λ c. f c R) a
   unfolding apply_step
@@ -67,7 +69,7 @@ module _ (words starts : ℕ) where
       let B = before a n l in
       let e = ext_tail B.ext in
       let low : (c : ℕ) → Mem c (children (at a n)) → c < length B.older = λ c k. let j = index_of k in omega (arith, j.is, B.count, child_lower table a h n l j.index j.inside) in
-      (λ i. rec_at (apply_step words starts) (λ R a. refuse 6) a n l i R b)
+      (λ i. rec_at (apply_step words starts) (λ R a. Err refusal.NoSuchRoot) a n l i R b)
       ∙ step_same B.older a (at a n) (apply words starts B.older) (apply words starts a) R b
       (λ c k. sym (apply_kept B.older a e c (low c k)))
       (sym (remaining_kept table B.older a (sound_ext table e h) e R (children (at a n)) low))

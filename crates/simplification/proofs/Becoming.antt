@@ -8,7 +8,7 @@ use mathlib.Core.List.{List, [], ◌∷◌, flat_map, ◌++◌, Memᴰ as Mem}
 use mathlib.Core.Option.{none}
 use native.Mathlib.Omega.{arith}
 use lib.ListN.{length, get_or}
-use Rattle.types.specs.Out.{ok}
+use Rattle.std.specs.Prelude.{Ok}
 use Rattle.types.specs.Node.{Polarity, members, bound, neg, Tag, Node, node, tag, children}
 use Rattle.types.specs.Arena.{Arena, at, sound, Ext}
 use Rattle.types.specs.Places.{opposite}
@@ -34,7 +34,7 @@ children_inside table {a} h {n} I d i =
     omega (arith, j.is, I.inside)
 
 -- so is what members that are there bring
-pub brought_inside : (table : ℕ) (a : Arena) → sound table a ≡ true → (k : Polarity) (ms : List ℕ) → Inside a ms → (l : List ℕ) → member_list k a ms ≡ ok l → Inside a l
+pub brought_inside : (table : ℕ) (a : Arena) → sound table a ≡ true → (k : Polarity) (ms : List ℕ) → Inside a ms → (l : List ℕ) → member_list k a ms ≡ Ok l → Inside a l
 brought_inside table a g k ms inside l e x h = let q = (listed k a ms l e).from x h in go q.0 (inside q.0 q.1) q.2
   where
     go : (m : ℕ) → m < length a → Brought k m (at a m) x → x < length a
@@ -44,8 +44,8 @@ brought_inside table a g k ms inside l e x h = let q = (listed k a ms l e).from 
 -- m stands for a list of kind k of which something is left, and whose remaining members became es
 pub data Stands (a : Arena) (k : Polarity) (es : List ℕ) (m : ℕ) : Type 0 where
   decided : is_decided k a es ≡ true → At a m (node (bound (opposite k)) []) → Stands a k es m
-  single : is_decided k a es ≡ false → member_list k a es ≡ ok (m ∷ []) → m < length a → Stands a k es m
-  several : {x y : ℕ} {zs : List ℕ} → is_decided k a es ≡ false → member_list k a es ≡ ok (x ∷ y ∷ zs) → At a m (node (members k) (x ∷ y ∷ zs)) → Stands a k es m
+  single : is_decided k a es ≡ false → member_list k a es ≡ Ok (m ∷ []) → m < length a → Stands a k es m
+  several : {x y : ℕ} {zs : List ℕ} → is_decided k a es ≡ false → member_list k a es ≡ Ok (x ∷ y ∷ zs) → At a m (node (members k) (x ∷ y ∷ zs)) → Stands a k es m
 
 -- where the variables R are removable, node c becomes node m
 pub data Becomes (a : Arena) : (ℕ → Bool) → ℕ → ℕ → Type 0 where
@@ -54,7 +54,7 @@ pub data Becomes (a : Arena) : (ℕ → Bool) → ℕ → ℕ → Type 0 where
   list : {R : ℕ → Bool} {c m : ℕ} (k : Polarity) (ds es : List ℕ) → At a c (node (members k) ds) → length es ≡ length (remaining R a ds)
       → ((i : ℕ) → i < length (remaining R a ds) → Becomes a R (get_or (remaining R a ds) i 0) (get_or es i 0)) → Stands a k es m → Becomes a R c m
   emptied : {R : ℕ → Bool} {c m : ℕ} (k : Polarity) (ds es : List ℕ) → At a c (node (members k) ds) → 0 < length ds → length es ≡ length (remaining R a ds)
-      → ((i : ℕ) → i < length (remaining R a ds) → Becomes a R (get_or (remaining R a ds) i 0) (get_or es i 0)) → is_decided k a es ≡ false → member_list k a es ≡ ok []
+      → ((i : ℕ) → i < length (remaining R a ds) → Becomes a R (get_or (remaining R a ds) i 0) (get_or es i 0)) → is_decided k a es ≡ false → member_list k a es ≡ Ok []
       → Becomes a no_variable (get_or ds 0 0) m → Becomes a R c m
 
 pub becomes_inside : {a : Arena} {R : ℕ → Bool} {c m : ℕ} → Becomes a R c m → m < length a

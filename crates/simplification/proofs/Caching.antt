@@ -8,7 +8,9 @@ use mathlib.Core.List.{List, [], ◌∷◌, Memᴰ as Mem}
 use mathlib.Core.Option.{Option, none, some}
 use native.Mathlib.Omega.{arith}
 use lib.ListN.{length, get_or}
-use Rattle.types.specs.Out.{Out, ok, refuse, ◌>>=◌}
+use Rattle.std.specs.Prelude.{Ok, Err}
+use Rattle.types.specs.declared.refusal.Refusal.TheVariants as refusal
+use Rattle.types.specs.Out.{Out, ◌>>=◌}
 use Rattle.types.specs.Node.{Polarity, Tag, members, bound, Node, node, tag, children, formed}
 use Rattle.types.specs.Arena.{Arena, sound, Ext, here, more}
 use Rattle.types.specs.Places.{opposite}
@@ -31,7 +33,7 @@ use Rattle.simplification.proofs.Applying.{list_kind_some, step_other, step_list
 module _ (words starts table : ℕ) (few : starts ≤ 4096) where
   -- members that are there, gathered
   module _ (a : Arena) (g : sound table a ≡ true) (k : Polarity) (first : Job) (S : Steady table a There first) (ms : List ℕ) (inside : Inside a ms) where
-    close_steady : (l : List ℕ) → member_list k a ms ≡ ok l → Steady table a There (close words starts k first l)
+    close_steady : (l : List ℕ) → member_list k a ms ≡ Ok l → Steady table a There (close words starts k first l)
     unfolding close
     close_steady [] e = S
     close_steady (m ∷ []) e = answer_steady a m (λ b x. omega (arith, brought_inside table a g k ms inside (m ∷ []) e m (head refl), ext_length a b x))
@@ -47,8 +49,8 @@ module _ (words starts table : ℕ) (few : starts ≤ 4096) where
 
     open_steady : is_decided k a ms ≡ false → (o : Out (List ℕ)) → member_list k a ms ≡ o → Steady table a There (gather words starts k first ms)
     unfolding ◌>>=◌
-    open_steady d (ok l) e = steady_as (gather words starts k first ms) (close words starts k first l) (opened d e) (close_steady l e)
-    open_steady d (refuse n) e = steady_as (gather words starts k first ms) (λ (b : Arena). refuse n) (opened d e) (refusal_steady n)
+    open_steady d (Ok l) e = steady_as (gather words starts k first ms) (close words starts k first l) (opened d e) (close_steady l e)
+    open_steady d (Err n) e = steady_as (gather words starts k first ms) (λ (b : Arena). Err n) (opened d e) (refusal_steady n)
 
     gather_steady : Steady table a There (gather words starts k first ms)
     gather_steady = go (is_decided k a ms) refl
@@ -80,7 +82,7 @@ module _ (words starts table : ℕ) (few : starts ≤ 4096) where
 
   pub apply_steady : (s : Arena) → sound table s ≡ true → (n : ℕ) → n < length s → (R : ℕ → Bool) → Steady table s There (apply words starts s n R)
   unfolding apply
-  apply_steady = rec_steady table table (λ (v : (ℕ → Bool) → Job) (R : ℕ → Bool). v R) (apply_step words starts) (λ R a. refuse 6) (λ (s : Arena). s) (λ x s. more x here) step_steady
+  apply_steady = rec_steady table table (λ (v : (ℕ → Bool) → Job) (R : ℕ → Bool). v R) (apply_step words starts) (λ R a. Err refusal.NoSuchRoot) (λ (s : Arena). s) (λ x s. more x here) step_steady
 
 -- the law: a₀ is an earlier arena, a₁ what was left then, a the present one
 pub cache_law : CacheLaw

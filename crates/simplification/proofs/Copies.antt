@@ -19,11 +19,13 @@ use lib.ListN.{length, get_or, length-append, get_or-append}
 use lib.Seq.{get_or-append_seam}
 use lib.Dec.{eqb, ltb}
 use borrow.Author.Tests.{eqb-true, eq-eqb, ltb-true, ltb-false}
-use Rattle.types.specs.Out.{Out, ok, refuse}
+use Rattle.std.specs.Prelude.{Ok, Err}
+use Rattle.types.specs.declared.refusal.Refusal.TheVariants as refusal
+use Rattle.types.specs.Out.{Out}
 use Rattle.types.specs.Node.{Polarity}
 use Rattle.types.specs.Arena.{Arena, at}
 use Rattle.types.proofs.Tests.{true_false}
-use Rattle.recursion.proofs.Answers.{ok_refuse, ok_same, bind_parts}
+use Rattle.recursion.proofs.Answers.{ok_err, ok_same, bind_parts}
 use Rattle.recursion.proofs.Members.{member_at}
 use Rattle.simplification.specs.Pass.{one_of, splice, append, first_copies, member_list}
 use Rattle.simplification.proofs.Answers.{one_true, one_if}
@@ -74,7 +76,7 @@ snoc_different m acc f d i j l k e = go (ltb j (length acc)) refl
         let y : get_or acc i 0 ≡ m = sym (early i (omega arith)) ∙ e ∙ ap (λ (j : ℕ). get_or (acc ++ (m ∷ [])) j 0) x ∙ get_or-append_seam acc m [] 0 in
         f (Memᴰ.cast (sym y) (member_at acc i (omega arith)))
 
-appended : (m : ℕ) (acc l : List ℕ) → append m acc ≡ ok l → Copies acc (m ∷ []) l
+appended : (m : ℕ) (acc l : List ℕ) → append m acc ≡ Ok l → Copies acc (m ∷ []) l
 unfolding append
 appended m acc l e = go (one_of (eqb m) acc) refl (ltb (length acc) 64) refl e
   where
@@ -97,12 +99,12 @@ appended m acc l e = go (one_of (eqb m) acc) refl (ltb (length acc) 64) refl e
     }
 
     go : (b : Bool) → one_of (eqb m) acc ≡ b → (d : Bool) → ltb (length acc) 64 ≡ d
-        → elim b as (λ _. Out (List ℕ)) [ true ↦ ok acc | false ↦ elim d as (λ _. Out (List ℕ)) [ true ↦ ok (acc ++ (m ∷ [])) | false ↦ refuse 8 ] ] ≡ ok l → Copies acc (m ∷ []) l
+        → elim b as (λ _. Out (List ℕ)) [ true ↦ Ok acc | false ↦ elim d as (λ _. Out (List ℕ)) [ true ↦ Ok (acc ++ (m ∷ [])) | false ↦ Err refusal.TooManyMembers ] ] ≡ Ok l → Copies acc (m ∷ []) l
     go true p d q e = subst (Copies acc (m ∷ [])) (ok_same e) (there_already p)
     go false p true q e = subst (Copies acc (m ∷ [])) (ok_same e) (put p (ltb-true (length acc) 64 q))
-    go false p false q e = absurd (ok_refuse e)
+    go false p false q e = absurd (ok_err e)
 
-pub copies : (acc ms l : List ℕ) → first_copies acc ms ≡ ok l → Copies acc ms l
+pub copies : (acc ms l : List ℕ) → first_copies acc ms ≡ Ok l → Copies acc ms l
 unfolding first_copies
 copies acc [] l e = subst (Copies acc []) (ok_same e) (record { from = λ x h. inl h; old = λ x h. h; new = λ x h. absurd (not-nil h); different = λ d. d; few = λ n. n })
 copies acc (m ∷ ms) l e =
@@ -133,7 +135,7 @@ pub record Listed (k : Polarity) (a : Arena) (ms l : List ℕ) : Type 0 where
   pub different : Different l
   pub few : length l ≤ 64
 
-pub listed : (k : Polarity) (a : Arena) (ms l : List ℕ) → member_list k a ms ≡ ok l → Listed k a ms l
+pub listed : (k : Polarity) (a : Arena) (ms l : List ℕ) → member_list k a ms ≡ Ok l → Listed k a ms l
 unfolding member_list
 listed k a ms l e =
     let C = copies [] (flat_map (λ (m : ℕ). splice k m (at a m)) ms) l e in

@@ -10,12 +10,13 @@ use mathlib.Core.List.{List, [], ◌∷◌, Memᴰ as Mem}
 use lib.ListN.{length}
 use lib.Dec.{eqb}
 use Rattle.types.specs.Places.{Occurs}
-use Rattle.types.specs.Out.{Out, ok, ◌>>=◌}
+use Rattle.std.specs.Prelude.{Ok}
+use Rattle.types.specs.Out.{Out, ◌>>=◌}
 use Rattle.types.specs.Node.{Polarity, positive}
 use Rattle.types.specs.Arena.{Arena, sound}
 use Rattle.recursion.proofs.Answers.{ok_same, bind_parts}
 use Rattle.simplification.specs.Pass.{pass}
-use Rattle.simplification.specs.Passes.{Taken, Result, after, unchanged, more_passes, passes, simplify_by, simplify}
+use Rattle.simplification.specs.Passes.{Taken, AfterPasses, after, unchanged, more_passes, passes, simplify_by, simplify}
 use Rattle.simplification.specs.Reading.{Reading}
 use Rattle.simplification.specs.Demand.{ReadingFits}
 use Rattle.simplification.specs.Theorems.{DemandBy, Demand3}
@@ -37,7 +38,7 @@ pub data Decreasing (table : ℕ) : List Taken → Type 0 where
   more : {t : Taken} {ts : List Taken} → SoundType table t → ((u : Taken) → Mem u ts → Within u t) → Decreasing table ts → Decreasing table (t ∷ ts)
 
 -- what the passes did, from the type of n in the arena a on
-pub record Passes (table n : ℕ) (a : Arena) (q : Result) : Type 0 where
+pub record Passes (table n : ℕ) (a : Arena) (q : AfterPasses) : Type 0 where
   pub shape : InShape q.arena q.root
   pub kept : Kept q.taken a n q.arena q.root
   pub within : (u : Taken) → Mem u q.taken → Within u (record { root = n; arena = a })
@@ -59,7 +60,7 @@ fits_rest : {r : Reading} {t : Taken} {ts : List Taken} → ReadingFits r (t ∷
 fits_rest F = record { as_seen = λ u i. F.as_seen u (tail i) }
 
 -- a pass, and those that follow
-then_passes : (table n : ℕ) (a : Arena) → sound table a ≡ true → n < length a → (m : ℕ) (b : Arena) → Passed table n a m b → (q : Result) → Passes table m b q → Passes table n a (after n a q)
+then_passes : (table n : ℕ) (a : Arena) → sound table a ≡ true → n < length a → (m : ℕ) (b : Arena) → Passed table n a m b → (q : AfterPasses) → Passes table m b q → Passes table n a (after n a q)
 then_passes table n a g l m b P q Q = record {
   shape = Q.shape;
   kept = record {
@@ -79,29 +80,29 @@ then_passes table n a g l m b P q Q = record {
     all u (tail i) = rest u i
 
 module _ (words starts table : ℕ) (few : starts ≤ 4096) where
-  passes_do : (i n : ℕ) (a : Arena) → sound table a ≡ true → n < length a → InShape a n → (q : Result) → passes words starts i n a ≡ ok q → Passes table n a q
+  passes_do : (i n : ℕ) (a : Arena) → sound table a ≡ true → n < length a → InShape a n → (q : AfterPasses) → passes words starts i n a ≡ Ok q → Passes table n a q
   unfolding passes
   passes_do zero n a g l s q e = subst (Passes table n a) (ok_same e) (no_pass table n a s)
   passes_do (suc i) n a g l s q e =
-      let p = bind_parts (pass words starts n a) (λ r. elim (eqb r.0 n) as (λ _. Out Result) [ true ↦ ok (after n a (unchanged r.0 r.1)) | false ↦ passes words starts i r.0 r.1 >>= λ q. ok (after n a q) ]) e in
+      let p = bind_parts (pass words starts n a) (λ r. elim (eqb r.0 n) as (λ _. Out AfterPasses) [ true ↦ Ok (after n a (unchanged r.0 r.1)) | false ↦ passes words starts i r.0 r.1 >>= λ q. Ok (after n a q) ]) e in
       let P = passed words starts table few n a g l p.0.0 p.0.1 p.1 in
       go p.0.0 p.0.1 P (eqb p.0.0 n) p.2 (passes_do i p.0.0 p.0.1 P.good P.inside P.shape)
     where
-      go : (m : ℕ) (b : Arena) → Passed table n a m b → (d : Bool) → elim d as (λ _. Out Result) [ true ↦ ok (after n a (unchanged m b)) | false ↦ passes words starts i m b >>= λ q. ok (after n a q) ] ≡ ok q
-          → ((q : Result) → passes words starts i m b ≡ ok q → Passes table m b q) → Passes table n a q
+      go : (m : ℕ) (b : Arena) → Passed table n a m b → (d : Bool) → elim d as (λ _. Out AfterPasses) [ true ↦ Ok (after n a (unchanged m b)) | false ↦ passes words starts i m b >>= λ q. Ok (after n a q) ] ≡ Ok q
+          → ((q : AfterPasses) → passes words starts i m b ≡ Ok q → Passes table m b q) → Passes table n a q
       go m b P true e f = subst (Passes table n a) (ok_same e) (then_passes table n a g l m b P (unchanged m b) (no_pass table m b P.shape))
       go m b P false e f =
-          let r = bind_parts (passes words starts i m b) (λ q. ok (after n a q)) e in
+          let r = bind_parts (passes words starts i m b) (λ q. Ok (after n a q)) e in
           subst (Passes table n a) (ok_same r.2) (then_passes table n a g l m b P r.0 (f r.0 r.1))
 
   -- whatever the greatest number of passes
-  module _ (i root : ℕ) (a : Arena) (g : sound table a ≡ true) (l : root < length a) (q : Result) (e : simplify_by words starts i root a ≡ ok q) where
+  module _ (i root : ℕ) (a : Arena) (g : sound table a ≡ true) (l : root < length a) (q : AfterPasses) (e : simplify_by words starts i root a ≡ Ok q) where
     pub simplify_passes : Passes table root a q
     unfolding simplify_by
     simplify_passes =
-        let p = bind_parts (pass words starts root a) (λ r. passes words starts i r.0 r.1 >>= λ q. ok (after root a q)) e in
+        let p = bind_parts (pass words starts root a) (λ r. passes words starts i r.0 r.1 >>= λ q. Ok (after root a q)) e in
         let P = passed words starts table few root a g l p.0.0 p.0.1 p.1 in
-        let r = bind_parts (passes words starts i p.0.0 p.0.1) (λ q. ok (after root a q)) p.2 in
+        let r = bind_parts (passes words starts i p.0.0 p.0.1) (λ q. Ok (after root a q)) p.2 in
         subst (Passes table root a) (ok_same r.2) (then_passes table root a g l p.0.0 p.0.1 P r.0 (passes_do i p.0.0 p.0.1 P.good P.inside P.shape r.0 r.1))
 
 pub demand_by : DemandBy

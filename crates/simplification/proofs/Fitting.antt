@@ -8,14 +8,14 @@ use mathlib.Core.List.Memᴰ.{tail}
 use mathlib.Core.List.{List, Memᴰ as Mem}
 use lib.ListN.{length}
 use borrow.Author.Tests.{not-true}
-use Rattle.types.specs.Out.{ok}
+use Rattle.std.specs.Prelude.{Ok}
 use Rattle.types.specs.Node.{Polarity, positive, negative}
 use Rattle.types.specs.Arena.{Arena, sound}
 use Rattle.types.proofs.Tests as tests
 use Rattle.simplification.specs.Seen.{sees}
 use Rattle.simplification.specs.Removal.{OccursOnly}
 use Rattle.simplification.specs.Pass.{one_of}
-use Rattle.simplification.specs.Passes.{Taken, Result, simplify_by}
+use Rattle.simplification.specs.Passes.{Taken, AfterPasses, simplify_by}
 use Rattle.simplification.specs.Reading.{Entry, Reading, in_bound}
 use Rattle.simplification.specs.Demand.{ReadingFits}
 use Rattle.simplification.specs.Theorems.{SomeReadingFits}
@@ -66,7 +66,7 @@ unfoldable pub fitting : List Taken → (k : ℕ) → List (Entry k) → Reading
 unfolding only_negative
 fitting ts k es = record { marks = k; vars = λ v m. only_negative ts v; entries = es }
 
-pub fitting_fits : (words starts table : ℕ) → starts ≤ 4096 → (i root : ℕ) (a : Arena) → sound table a ≡ true → root < length a → (q : Result) → simplify_by words starts i root a ≡ ok q
+pub fitting_fits : (words starts table : ℕ) → starts ≤ 4096 → (i root : ℕ) (a : Arena) → sound table a ≡ true → root < length a → (q : AfterPasses) → simplify_by words starts i root a ≡ Ok q
     → (k : ℕ) (es : List (Entry k)) → ReadingFits (fitting q.taken k es) q.taken
 unfolding fitting
 fitting_fits words starts table few i root a g l q e k es = record { as_seen = λ t j v p O m. go t j v p O }

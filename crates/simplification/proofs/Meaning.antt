@@ -11,7 +11,7 @@ use mathlib.Core.List.{List, [], ◌∷◌, map, Memᴰ as Mem}
 use mathlib.Core.Logic.{◌⊎◌, inl, inr}
 use native.Mathlib.Omega.{arith}
 use lib.ListN.{length, get_or}
-use Rattle.types.specs.Out.{ok}
+use Rattle.std.specs.Prelude.{Ok}
 use Rattle.types.specs.Node.{Polarity, positive, negative, Tag, members, bound, Node, node, tag, children}
 use Rattle.types.specs.Arena.{Arena, at, sound, Ext}
 use Rattle.types.specs.Places.{opposite, child_sign, Place, self}
@@ -104,7 +104,7 @@ module _ (r : Reading) (table : ℕ) (a : Arena) (g : sound table a ≡ true) wh
     decider_list n cs I h = (λ i. set_at I i x) ∙ decider_members k (set_of r a) x cs h.0 h.1 h.2
 
     -- some member decides if some of what they bring does
-    module _ (es : List ℕ) (inside : Inside a es) (l : List ℕ) (m : member_list k a es ≡ ok l) where
+    module _ (es : List ℕ) (inside : Inside a es) (l : List ℕ) (m : member_list k a es ≡ Ok l) where
       at_tag : (e : ℕ) → Mem e es → {t : Tag} → tag (at a e) ≡ t → At a e (node t (children (at a e)))
       at_tag e i q = record { inside = inside e i; is = node_is (at a e) q }
 
@@ -175,7 +175,7 @@ module _ (r : Reading) (table : ℕ) (a : Arena) (g : sound table a ≡ true) wh
     list_meaning m end = fun_ext (λ x. let H = stood_decider k x es m inside end in same_deciding k (set_of r a m x) (set_of r a c x) (λ e. remained_decider x (H.0 e)) (λ e. H.1 (decider_remained x e)))
 
     -- nothing is left that could decide: the list's set is neutral, and so is each member's
-    emptied_meaning : member_list k a es ≡ ok [] → (d : ℕ) → Mem d ds → set_of r a d ≡ set_of r a c
+    emptied_meaning : member_list k a es ≡ Ok [] → (d : ℕ) → Mem d ds → set_of r a d ≡ set_of r a c
     emptied_meaning f d i = fun_ext (λ x.
         same_deciding k (set_of r a d x) (set_of r a c x) (λ w. decider_list k x c ds I (d, i, w)) (λ w. absurd (not-nil (decider_brought k x es inside [] f (decider_remained x w)).1)))
 

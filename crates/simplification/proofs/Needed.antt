@@ -3,12 +3,12 @@ use mathlib.Core.Path.{◌≡◌, refl, sym}
 use mathlib.Core.Bool.{true}
 use mathlib.Core.List.{[], ◌∷◌}
 use native.Mathlib.Omega.{arith}
-use Rattle.types.specs.Out.{ok}
+use Rattle.std.specs.Prelude.{Ok}
 use Rattle.types.specs.Node.{positive, primitive, child_words_in}
 use Rattle.types.specs.Arena.{Arena, at, sound}
 use Rattle.types.specs.Places.{self}
 use Rattle.types.proofs.Tests.{true_false}
-use Rattle.simplification.specs.Passes.{Result, more_passes, simplify}
+use Rattle.simplification.specs.Passes.{AfterPasses, more_passes, simplify}
 use Rattle.simplification.specs.Reading.{Reading, set_of}
 use Rattle.simplification.specs.Demand.{ReadingFits}
 use Rattle.simplification.specs.Theorems.{unpolar, PolarFormNeeded, NoHandingBack}
@@ -20,10 +20,10 @@ abbrev grown : Arena
 grown = I 0 2 ∷ unpolar
 
 -- a pass leaves I[a, int], the next int, and the third changes nothing
-abbrev result : Result
+abbrev result : AfterPasses
 result = record { root = 2; arena = grown; taken = record { root = 4; arena = unpolar } ∷ record { root = 5; arena = grown } ∷ record { root = 2; arena = grown } ∷ [] }
 
-simplified : simplify 16384 4096 4 unpolar ≡ ok result
+simplified : simplify 16384 4096 4 unpolar ≡ Ok result
 unfolding simplify child_words_in
 simplified = refl
 

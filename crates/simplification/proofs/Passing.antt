@@ -6,7 +6,7 @@ use mathlib.Core.List.Memᴰ.{head}
 use mathlib.Core.List.{List, [], ◌∷◌, map}
 use native.Mathlib.Omega.{arith}
 use lib.ListN.{length, get_or}
-use Rattle.types.specs.Out.{ok}
+use Rattle.std.specs.Prelude.{Ok}
 use Rattle.types.specs.Node.{Polarity, positive, negative, Tag, var, neg, tag, children}
 use Rattle.types.specs.Arena.{Arena, at, sound, Ext, here}
 use Rattle.types.specs.Places.{opposite, child_sign, Place, self, down, Polar, Occurs}
@@ -141,6 +141,6 @@ module _ (table n : ℕ) (a : Arena) (g : sound table a ≡ true) (l : n < lengt
     };
   }
 
-pub passed : (words starts table : ℕ) → starts ≤ 4096 → (n : ℕ) (a : Arena) → sound table a ≡ true → n < length a → (m : ℕ) (b : Arena) → pass words starts n a ≡ ok (m, b) → Passed table n a m b
+pub passed : (words starts table : ℕ) → starts ≤ 4096 → (n : ℕ) (a : Arena) → sound table a ≡ true → n < length a → (m : ℕ) (b : Arena) → pass words starts n a ≡ Ok (m, b) → Passed table n a m b
 unfolding pass
 passed words starts table few n a g l m b e = run_passed table n a g l m b (apply_runs words starts table few (one_signed a n) a a b n m here g l e)

@@ -9,7 +9,8 @@ use mathlib.Core.Option.{Option, none, some}
 use native.Mathlib.Omega.{arith}
 use native.Mathlib.Nat.{le_of_suc-le-suc}
 use lib.ListN.{length, get_or}
-use Rattle.types.specs.Out.{ok, ◌>>=◌}
+use Rattle.std.specs.Prelude.{Ok}
+use Rattle.types.specs.Out.{◌>>=◌}
 use Rattle.types.specs.Node.{Polarity, Tag, members, bound, Node, node, tag, children, well}
 use Rattle.types.specs.Arena.{Arena, at, sound, Ext, here}
 use Rattle.types.specs.Places.{opposite}
@@ -42,15 +43,15 @@ record Runs (table : ℕ) (R : ℕ → Bool) (a : Arena) (cs es : List ℕ) (b :
 
 module _ (table : ℕ) (R : ℕ → Bool) (s : Arena) (f : ℕ → Job) where
   abbrev RunsIn : ℕ → Type 0
-  RunsIn c = (a b : Arena) (m : ℕ) → Ext s a → sound table a ≡ true → f c a ≡ ok (m, b) → Run table R a c m b
+  RunsIn c = (a b : Arena) (m : ℕ) → Ext s a → sound table a ≡ true → f c a ≡ Ok (m, b) → Run table R a c m b
 
-  each_runs : (cs : List ℕ) → ((c : ℕ) → Mem c cs → RunsIn c) → (a b : Arena) (es : List ℕ) → Ext s a → sound table a ≡ true → each f cs a ≡ ok (es, b) → Runs table R a cs es b
+  each_runs : (cs : List ℕ) → ((c : ℕ) → Mem c cs → RunsIn c) → (a b : Arena) (es : List ℕ) → Ext s a → sound table a ≡ true → each f cs a ≡ Ok (es, b) → Runs table R a cs es b
   unfolding each
   each_runs [] h a b es x g e =
       subst (λ (v : List ℕ × Arena). Runs table R a [] v.0 v.1) (ok_same e) (record { ext = here; good = g; become = (refl, λ i l. absurd (omega arith)) })
   each_runs (c ∷ cs) h a b es x g e =
-      let p = bind_parts (f c a) (λ r. each f cs r.1 >>= λ q. ok (r.0 ∷ q.0, q.1)) e in
-      let q = bind_parts (each f cs p.0.1) (λ q. ok (p.0.0 ∷ q.0, q.1)) p.2 in
+      let p = bind_parts (f c a) (λ r. each f cs r.1 >>= λ q. Ok (r.0 ∷ q.0, q.1)) e in
+      let q = bind_parts (each f cs p.0.1) (λ q. Ok (p.0.0 ∷ q.0, q.1)) p.2 in
       let H = h c (head refl) a p.0.1 p.0.0 x g p.1 in
       let T = each_runs cs (λ d i. h d (tail i)) p.0.1 q.0.1 q.0.0 (ext_trans x H.ext) H.good q.1 in
       subst (λ (v : List ℕ × Arena). Runs table R a (c ∷ cs) v.0 v.1) (ok_same q.2) (joined p.0.0 p.0.1 q.0.0 q.0.1 H T)
@@ -65,7 +66,7 @@ module _ (table : ℕ) (R : ℕ → Bool) (s : Arena) (f : ℕ → Job) where
 module _ (words starts table : ℕ) (few : starts ≤ 4096) where
   -- the members of the list at node n became ms, all in the arena a; `first` simplifies the first of them
   module _ (R : ℕ → Bool) (a : Arena) (g : sound table a ≡ true) (n : ℕ) (k : Polarity) (cs ms : List ℕ) (I : At a n (node (members k) cs)) (sub : AllBecome a R (remaining R a cs) ms) (first : Job)
-      (back : (m : ℕ) (b : Arena) → first a ≡ ok (m, b) → Run table no_variable a (get_or cs 0 0) m b) where
+      (back : (m : ℕ) (b : Arena) → first a ≡ Ok (m, b) → Run table no_variable a (get_or cs 0 0) m b) where
     -- the list in a grown arena, if it is known what stands for it there
     stood : (m : ℕ) (b : Arena) → Ext a b → sound table b ≡ true → Stands b k ms m → Run table R a n m b
     stood m b x h S =
@@ -75,10 +76,10 @@ module _ (words starts table : ℕ) (few : starts ≤ 4096) where
     inside : Inside a ms
     inside = all_inside R (remaining R a cs) ms sub
 
-    brought : (l : List ℕ) → member_list k a ms ≡ ok l → Inside a l
+    brought : (l : List ℕ) → member_list k a ms ≡ Ok l → Inside a l
     brought = brought_inside table a g k ms inside
 
-    closed : is_decided k a ms ≡ false → (l : List ℕ) → member_list k a ms ≡ ok l → (m : ℕ) (b : Arena) → close words starts k first l a ≡ ok (m, b) → Run table R a n m b
+    closed : is_decided k a ms ≡ false → (l : List ℕ) → member_list k a ms ≡ Ok l → (m : ℕ) (b : Arena) → close words starts k first l a ≡ Ok (m, b) → Run table R a n m b
     unfolding close
     closed u [] q m b e =
         let B = back m b e in
@@ -98,7 +99,7 @@ module _ (words starts table : ℕ) (few : starts ≤ 4096) where
         let J = interned words starts table few (node (members k) (x ∷ y ∷ zs)) a g m b w e in
         stood m b J.ext J.good (several (decided_kept table a b g J.ext k ms inside ∙ u) (listed_kept table a b g J.ext k ms inside ∙ q) J.is)
 
-    gathered : (m : ℕ) (b : Arena) → gather words starts k first ms a ≡ ok (m, b) → Run table R a n m b
+    gathered : (m : ℕ) (b : Arena) → gather words starts k first ms a ≡ Ok (m, b) → Run table R a n m b
     gathered m b e = go (is_decided k a ms) refl
       where
         go : (d : Bool) → is_decided k a ms ≡ d → Run table R a n m b
@@ -115,7 +116,7 @@ module _ (words starts table : ℕ) (few : starts ≤ 4096) where
     itself_at : At a n (node (tag (at a n)) (children (at a n)))
     itself_at = record { inside = l; is = node_is (at a n) refl }
 
-    other_run : (m : ℕ) (b : Arena) → list_kind (tag (at a n)) ≡ none → rebuild words starts (tag (at a n)) (children (at a n)) (λ c. apply words starts a c R) a ≡ ok (m, b) → Run table R a n m b
+    other_run : (m : ℕ) (b : Arena) → list_kind (tag (at a n)) ≡ none → rebuild words starts (tag (at a n)) (children (at a n)) (λ c. apply words starts a c R) a ≡ Ok (m, b) → Run table R a n m b
     unfolding rebuild
     other_run m b q e =
         let t = tag (at a n) in
@@ -129,7 +130,7 @@ module _ (words starts table : ℕ) (few : starts ≤ 4096) where
         record { ext = x; good = J.good; becomes = other cs p.0.0 (at_kept table a b g x itself_at) q E.become.0 (λ i k. becomes_kept table p.0.1 b E.good J.ext (E.become.1 i k)) J.is }
 
     list_run : (m : ℕ) (b : Arena) (k : Polarity) → tag (at a n) ≡ members k
-        → (each (λ c. apply words starts a c R) (remaining R a (children (at a n))) a >>= λ r. gather words starts k (apply words starts a (get_or (children (at a n)) 0 0) no_variable) r.0 r.1) ≡ ok (m, b) → Run table R a n m b
+        → (each (λ c. apply words starts a c R) (remaining R a (children (at a n))) a >>= λ r. gather words starts k (apply words starts a (get_or (children (at a n)) 0 0) no_variable) r.0 r.1) ≡ Ok (m, b) → Run table R a n m b
     list_run m b k q e =
         let cs = children (at a n) in
         let p = bind_parts (each (λ c. apply words starts a c R) (remaining R a cs) a) (λ r. gather words starts k (apply words starts a (get_or cs 0 0) no_variable) r.0 r.1) e in
@@ -139,10 +140,10 @@ module _ (words starts table : ℕ) (few : starts ≤ 4096) where
         (λ m b. ih (get_or cs 0 0) (member_at cs 0 (has_member table a g n l k q)) no_variable p.0.1 b m E.ext E.good) m b p.2 in
         record { ext = ext_trans E.ext G.ext; good = G.good; becomes = G.becomes }
 
-    node_run : (m : ℕ) (b : Arena) → apply words starts a n R a ≡ ok (m, b) → Run table R a n m b
+    node_run : (m : ℕ) (b : Arena) → apply words starts a n R a ≡ Ok (m, b) → Run table R a n m b
     node_run m b e = go (list_kind (tag (at a n))) refl
       where
-        step : apply_step words starts a (at a n) (apply words starts a) R a ≡ ok (m, b)
+        step : apply_step words starts a (at a n) (apply words starts a) R a ≡ Ok (m, b)
         step = sym (apply_at words starts table a g n l R a) ∙ e
 
         go : (o : Option Polarity) → list_kind (tag (at a n)) ≡ o → Run table R a n m b
@@ -159,7 +160,7 @@ module _ (words starts table : ℕ) (few : starts ≤ 4096) where
       low : n < length a → (c : ℕ) → Mem c (children (at a n)) → c < n
       low r c h = let q = index_of h in rw q.is at (child_lower table a g n r q.index q.inside)
 
-  module _ (R : ℕ → Bool) (s a b : Arena) (n m : ℕ) (x : Ext s a) (g : sound table a ≡ true) (l : n < length s) (e : apply words starts s n R a ≡ ok (m, b)) where
+  module _ (R : ℕ → Bool) (s a b : Arena) (n m : ℕ) (x : Ext s a) (g : sound table a ≡ true) (l : n < length s) (e : apply words starts s n R a ≡ Ok (m, b)) where
     pub apply_runs : Run table R a n m b
     apply_runs = bounded_run (suc n) n (omega arith) R s l a b m x g e
 

@@ -8,7 +8,7 @@ use mathlib.Core.Logic.{◌⊎◌, inl, inr}
 use mathlib.Core.Option.{Option, none, some}
 use native.Mathlib.Omega.{arith}
 use lib.ListN.{get_or}
-use Rattle.types.specs.Out.{ok}
+use Rattle.std.specs.Prelude.{Ok}
 use Rattle.types.specs.Node.{Polarity, positive, negative, Tag, members, bound, node, tag, children}
 use Rattle.types.specs.Arena.{Arena, at}
 use Rattle.types.specs.Places.{opposite, child_sign, Place, self, down}
@@ -49,7 +49,7 @@ module _ (a : Arena) where
       let d = step_back a m (node t es) hm s i l q in f (get_or es i 0) (member_at es i d.0) (child_sign t i s) u p d.1 k e
 
   module _ (k : Polarity) (es : List ℕ) (open_so : is_decided k a es ≡ false) (h : (e : ℕ) → Mem e es → InShape e) where
-    brought : (l : List ℕ) → member_list k a es ≡ ok l → (x : ℕ) → Mem x l → Member k x
+    brought : (l : List ℕ) → member_list k a es ≡ Ok l → (x : ℕ) → Mem x l → Member k x
     brought l e x i = let q = (listed k a es l e).from x i in go q.0 q.1 q.2
       where
         go : (m : ℕ) → Mem m es → Brought k m (at a m) x → Member k x
@@ -67,7 +67,7 @@ module _ (a : Arena) where
               shape = λ s u p q. h m i s u p (list_step a m k (children (at a m)) (node_is (at a m) r) (member_at (children (at a m)) j.index j.inside) q);
             })
 
-    several_shaped : (x y : ℕ) (zs : List ℕ) → member_list k a es ≡ ok (x ∷ y ∷ zs) → Shaped a k (x ∷ y ∷ zs)
+    several_shaped : (x y : ℕ) (zs : List ℕ) → member_list k a es ≡ Ok (x ∷ y ∷ zs) → Shaped a k (x ∷ y ∷ zs)
     several_shaped x y zs e = record {
       two = omega arith;
       different = (listed k a es (x ∷ y ∷ zs) e).different;

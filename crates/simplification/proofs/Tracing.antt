@@ -6,7 +6,7 @@ use mathlib.Core.List.Memᴰ.{head}
 use mathlib.Core.List.{List, [], ◌∷◌, Memᴰ as Mem}
 use native.Mathlib.Nat.{not-suc-le-zero}
 use lib.ListN.{length, get_or}
-use Rattle.types.specs.Out.{ok}
+use Rattle.std.specs.Prelude.{Ok}
 use Rattle.types.specs.Node.{Polarity, Tag, members, bound, Node, node, tag, children}
 use Rattle.types.specs.Arena.{Arena, at}
 use Rattle.types.specs.Places.{opposite, child_sign, Place, self, down}
@@ -51,7 +51,7 @@ module _ (a : Arena) where
       record { number = O.number; place = step a c (node t ds) hc i k O.place; same = O.same }
 
   module _ (c : ℕ) (k : Polarity) (es : List ℕ) (h : (e : ℕ) → Mem e es → Traced c e) where
-    brought : (l : List ℕ) → member_list k a es ≡ ok l → (x : ℕ) → Mem x l → Traced c x
+    brought : (l : List ℕ) → member_list k a es ≡ Ok l → (x : ℕ) → Mem x l → Traced c x
     brought l e x i = let q = (listed k a es l e).from x i in go q.0 (h q.0 q.1) q.2
       where
         go : (m : ℕ) → Traced c m → Brought k m (at a m) x → Traced c x

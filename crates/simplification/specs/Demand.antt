@@ -6,7 +6,7 @@ use Rattle.types.specs.Node.{Polarity, members, bound, tag, children}
 use Rattle.types.specs.Arena.{Arena, at}
 use Rattle.types.specs.Places.{Reachable, Polar, Occurs}
 use Rattle.simplification.specs.Removal.{OccursOnly}
-use Rattle.simplification.specs.Passes.{Taken, Result}
+use Rattle.simplification.specs.Passes.{Taken, AfterPasses}
 use Rattle.simplification.specs.Reading.{Reading, in_bound, set_of}
 
 -- the reading is empty on each variable that some pass sees only at positive places, and full on each that some pass sees only at negative
@@ -27,7 +27,7 @@ pub record Shaped (a : Arena) (k : Polarity) (ms : List ℕ) : Type 0 where
 -- under every reading that fits;
 -- in any case each list with a place in the returned type has its shape, and each variable there stands in the given type, at a place of
 -- the same sign
-pub record Demand (a : Arena) (root : ℕ) (q : Result) : Type 0 where
+pub record Demand (a : Arena) (root : ℕ) (q : AfterPasses) : Type 0 where
   pub meaning_kept : Polar a root → (r : Reading) → ReadingFits r q.taken → set_of r a root ≡ set_of r q.arena q.root
   pub shape : (u : ℕ) (k : Polarity) → Reachable q.arena q.root u → tag (at q.arena u) ≡ members k
       → Shaped q.arena k (children (at q.arena u))

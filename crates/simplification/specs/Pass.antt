@@ -1,10 +1,11 @@
 -- One pass of `simplify` (01, "simplify"), without a cache. Unions and intersections are one: k is the kind of list,
 -- `bound k` is its neutral element (`never` in unions) and `bound (opposite k)` is the one that decides it (`any` in unions).
-use Rattle.std.specs.Prelude.{ℕ, Bool, ◌||◌, length, get_or, eqb, ltb}
+use Rattle.std.specs.Prelude.{ℕ, Bool, ◌||◌, length, get_or, eqb, ltb, Ok, Err}
 use Rattle.std.proofs.Math.Bool.{true, false}
 use mathlib.Core.List.{List, [], ◌∷◌, ◌++◌, flat_map}
 use Rattle.std.proofs.Math.Option.{Option, none, some}
-use Rattle.types.specs.Out.{Out, ok, refuse, ◌>>=◌}
+use Rattle.types.specs.declared.refusal.Refusal.TheVariants as refusal
+use Rattle.types.specs.Out.{Out, ◌>>=◌}
 use Rattle.types.specs.Node.{Polarity, Tag, members, bound, var, neg, form, Node, node, tag, children}
 use Rattle.types.specs.Arena.{Arena, at, rec}
 use Rattle.types.specs.Places.{opposite}
@@ -62,14 +63,14 @@ splice k m x = elim (same_tag (tag x) (members k)) [
 unfoldable pub append : ℕ → List ℕ → Out (List ℕ)
 unfolding one_of
 append m acc = elim (one_of (eqb m) acc) [
-  | true ↦ ok acc
-  | false ↦ elim (ltb (length acc) 64) [ true ↦ ok (acc ++ (m ∷ [])) | false ↦ refuse 8 ]
+  | true ↦ Ok acc
+  | false ↦ elim (ltb (length acc) 64) [ true ↦ Ok (acc ++ (m ∷ [])) | false ↦ Err refusal.TooManyMembers ]
 ]
 
 -- the list so far, and the first copies of what follows
 unfoldable pub first_copies : List ℕ → List ℕ → Out (List ℕ)
 unfolding append ◌>>=◌
-first_copies acc [] = ok acc
+first_copies acc [] = Ok acc
 first_copies acc (m ∷ ms) = append m acc >>= λ (l : List ℕ). first_copies l ms
 
 -- the members of a list of kind k, from the members as simplified
@@ -91,7 +92,7 @@ module _ (words starts : ℕ) where
   unfoldable pub close : Polarity → Job → List ℕ → Job
   unfolding intern
   close k first [] a = first a
-  close k first (m ∷ []) a = ok (m, a)
+  close k first (m ∷ []) a = Ok (m, a)
   close k first (m ∷ n ∷ ms) a = intern words starts (node (members k) (m ∷ n ∷ ms)) a
 
   -- the same from the members as simplified: the bound that decides is looked for before members are counted, and so before 8
@@ -114,7 +115,7 @@ module _ (words starts : ℕ) where
   -- node n of the arena s, where the variables R are removable, is simplified in an arena that grew from s
   unfoldable pub apply : Arena → ℕ → (ℕ → Bool) → Job
   unfolding rec apply_step
-  apply = rec apply_step (λ R a. refuse 6)
+  apply = rec apply_step (λ R a. Err refusal.NoSuchRoot)
 
   -- a pass over the type of the root
   unfoldable pub pass : ℕ → Job

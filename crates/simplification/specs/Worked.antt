@@ -1,19 +1,20 @@
 -- The worked types of document 01 for `simplify`: what each becomes, and in how many passes.
-use Rattle.std.specs.Prelude.{ℕ, zero, suc, ◌+◌, List, [], ◌∷◌, reverse, length}
-use Rattle.types.specs.Out.{Out, ok, refuse}
+use Rattle.std.specs.Prelude.{ℕ, zero, suc, ◌+◌, List, [], ◌∷◌, reverse, length, Ok, Err}
+use Rattle.types.specs.declared.refusal.Refusal.{Refusal}
+use Rattle.types.specs.Out.{Out}
 use Rattle.types.specs.Node.{Polarity, positive, negative, primitive, lambda, members, bound, var, form, Node, node}
 use Rattle.types.specs.Arena.{at}
 use Rattle.types.specs.Places.{opposite}
-use Rattle.simplification.specs.Passes.{Result, simplify}
+use Rattle.simplification.specs.Passes.{AfterPasses, simplify}
 
 -- the root's node, and the passes made
 pub data Answer : Type 0 where
   answer : Node → ℕ → Answer
-  refused : ℕ → Answer
+  refused : Refusal → Answer
 
-abbrev pub answer_of : Out Result → Answer
-answer_of (ok q) = answer (at q.arena q.root) (length q.taken)
-answer_of (refuse e) = refused e
+abbrev pub answer_of : Out AfterPasses → Answer
+answer_of (Ok q) = answer (at q.arena q.root) (length q.taken)
+answer_of (Err e) = refused e
 
 -- what `simplify` gives, with all memory lent, and what it should give
 pub record Case : Type 0 where

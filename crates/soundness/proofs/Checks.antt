@@ -11,14 +11,17 @@ use lib.ListN.{length, get_or, take, drop, replicate, length-append, length-drop
 use lib.Seq.{get_or-drop, take_at, drop_at, take_all, take-add, take-suc, length-take-le}
 use lib.Dec.{eqb}
 use borrow.Author.Tests.{eqb-true, eqb-false, not-true, not-false}
+use Rattle.std.specs.Prelude as std
+use Rattle.std.specs.Prelude.{Some, None, is_err}
 use Rattle.words.specs.Words.{head_count}
-use Rattle.types.specs.Out.{number}
+use Rattle.types.specs.Out.{Out, checked, option_of}
 use Rattle.types.specs.Node.{Node, encode, guess, formed, below, well, decode, IsNode}
 use Rattle.types.specs.Arena as mem
 use Rattle.types.specs.Arena.{Arena, absent, sound, Ext, here, more}
 use Rattle.types.specs.Memory.{flat, heads, padded, Holds, span, arena_of}
 use Rattle.types.specs.declared.Counters.{Counters}
 use Rattle.types.proofs.Tests.{true_false}
+use Rattle.types.proofs.Refusals.{no_err_unit}
 use Rattle.types.proofs.Lists.{below_cons}
 use Rattle.types.proofs.Nodes.{guess_encode, length_encode}
 use Rattle.types.proofs.Decodes.{well_parts, decode_ok, faultless}
@@ -26,14 +29,12 @@ use Rattle.types.proofs.Growth.{ext_tail, ext_length}
 use Rattle.types.proofs.Sound.{sound_well, sound_fresh, sound_more, sound_ext}
 use Rattle.types.proofs.Memories.{span_encode, arena_of_holds, unique, unsound}
 use Rattle.types.proofs.Addresses.{length_heads, ext_flat, word_room, start_room, there, start_at, from_start}
-use Rattle.node_store.specs.Inner.Stored.{Searched, FoundIn, found_at}
+use Rattle.node_store.specs.Inner.Stored.{Searched, FoundIn}
 use Rattle.node_filter.specs.Inner.Hash.{hash_of}
 use Rattle.node_filter.specs.Inner.Filter.{Sets, Covers, CoversLent}
 use Rattle.node_filter.proofs.Filters.{covers_none, covers_more}
 use Rattle.soundness.specs.Inner.Sound.{is_some, is_sound, Limits, Within}
 use Rattle.soundness.specs.Inner.Reading.{Begun, Passed, Marked, NextNode, Next, NextSets}
-use Rattle.node_store.specs.declared.stored.Found.{Found}
-use Rattle.node_store.specs.declared.stored.Found.TheVariants as found
 
 -- ---- zeros
 below_one : (l : List ℕ) → below 1 l ≡ true → l ≡ replicate (length l) 0
@@ -125,6 +126,12 @@ is_within {r = r} W e = W.holds (not-false r e)
 abbrev judged : List ℕ → ℕ → ℕ → List ℕ
 judged w at y = take (at + (1 + y) - at) (drop at w)
 
+none_some : {k : ℕ} → ◌≡◌ {A = std.Option ℕ} None (Some k) → ⊥
+none_some e = let z : ◌≡◌ {A = ℕ} 0 1 = cc in omega arith
+
+some_same : {m n : ℕ} → ◌≡◌ {A = std.Option ℕ} (Some m) (Some n) → m ≡ n
+some_same e = cc
+
 module _ {table : ℕ} {w : List ℕ} {a : Arena} {at used k : ℕ} (N : NextNode table w a at used k) where
   next_formed : formed N.node ≡ true
   next_formed = (well_parts table (length a) N.node (sound_well table N.node a N.good)).formed_so
@@ -159,19 +166,19 @@ next_node {table} {w = w} {a = a} {at = at} {k = k} y e q N =
     }
 
 module _ {table : ℕ} {w s : List ℕ} {c : Counters} {n at : ℕ} where
-  none_next : ((a : Arena) → Begun table w s n at a → (k : ℕ) → NextNode table w a at c.words k → ⊥) → Next table w s c n at 0
-  none_next f = record { found = λ a H z. absurd (z refl); missing = λ a H z. f a H }
+  none_next : ((a : Arena) → Begun table w s n at a → (k : ℕ) → NextNode table w a at c.words k → ⊥) → Next table w s c n at None
+  none_next f = record { found = λ a H k e. absurd (none_some e); missing = λ a H z. f a H }
 
-  pub next_end : c.words ≤ at → Next table w s c n at 0
+  pub next_end : c.words ≤ at → Next table w s c n at None
   next_end h = none_next (λ a H k N. omega (arith, N.room, N.long, length_encode N.node))
 
-  pub next_long : {y : ℕ} → y ≡ head_count (get_or w at 0) → c.words - at < 1 + y → Next table w s c n at 0
+  pub next_long : {y : ℕ} → y ≡ head_count (get_or w at 0) → c.words - at < 1 + y → Next table w s c n at None
   next_long e h = none_next (λ a H k N. omega (arith, N.room, next_len N e))
 
   -- words without a fault have a head to search by
-  pub next_searched : (y : ℕ) {f : ℕ} → Passed table w s c n at → f ≡ number (decode table n (judged w at y)) → f ≡ 0 → Searched (take at w) (take n s) (record { nodes = n; words = at }) (judged w at y)
-  next_searched y P p z =
-      let D = faultless table n (judged w at y) (sym p ∙ z) in
+  pub next_searched : (y : ℕ) {f : Out (Unit {0})} {q : Bool} → Passed table w s c n at → f ≡ checked (decode table n (judged w at y)) → q ≡ is_err f → q ≡ false → Searched (take at w) (take n s) (record { nodes = n; words = at }) (judged w at y)
+  next_searched y {f} P p e z =
+      let D = faultless table n (judged w at y) (sym p ∙ no_err_unit f (sym e ∙ z)) in
       record { lent = record { table = table; view = P.view; holds = P.begun }; headed = omega (arith, ap length D.is.words, length_encode D.node) }
 
   -- and the bits of the nodes read are set
@@ -179,33 +186,37 @@ module _ {table : ℕ} {w s : List ℕ} {c : Counters} {n at : ℕ} where
   next_covered {filter} M = record { long = M.covers.long; is = λ t a H. subst (Covers filter) (unique M.passed.begun H) M.covers }
 
   module _ {y : ℕ} (e : y ≡ head_count (get_or w at 0)) where
-    pub next_fault : {r : ℕ} → r ≡ number (decode table n (judged w at y)) → (r ≡ 0 → ⊥) → Next table w s c n at 0
-    next_fault q f = none_next (λ a H k N. f (q ∙ ap number (decode_ok table n (judged w at y) N.node (next_node y e H.nodes N))))
+    pub next_fault : {r : Out (Unit {0})} {q : Bool} → r ≡ checked (decode table n (judged w at y)) → q ≡ is_err r → q ≡ true → Next table w s c n at None
+    next_fault p f z = none_next (λ a H k N.
+        true_false (sym z ∙ f ∙ ap is_err (p ∙ ap checked (decode_ok table n (judged w at y) N.node (next_node y e H.nodes N)))))
 
-    module _ {f : ℕ} (p : f ≡ number (decode table n (judged w at y))) (z : f ≡ 0) where
-      module _ {r : Found} (F : FoundIn (take at w) (take n s) (record { nodes = n; words = at }) (judged w at y) r) where
-        pub next_twice : {i : ℕ} → r ≡ found.At i → Next table w s c n at 0
+    module _ {f : Out (Unit {0})} {q : Bool} (p : f ≡ checked (decode table n (judged w at y))) (u : q ≡ is_err f) (z : q ≡ false) where
+      module _ {r : std.Option ℕ} (F : FoundIn (take at w) (take n s) (record { nodes = n; words = at }) (judged w at y) r) where
+        pub next_twice : {i : ℕ} → r ≡ Some i → Next table w s c n at None
         next_twice q = none_next (λ a H k N.
             true_false (sym (sound_fresh table N.node a N.good)
-            ∙ ap absent (sym (F.is table a N.node H (next_formed N) (next_node y e H.nodes N).words) ∙ ap found_at q)))
+            ∙ ap absent (sym (F.is table a N.node H (next_formed N) (next_node y e H.nodes N).words) ∙ ap option_of q)))
 
-        pub next_good : r ≡ found.Nothing → Passed table w s c n at → 1 + y ≤ c.words - at → Next table w s c n at (1 + y)
+        follows : r ≡ None → Passed table w s c n at → 1 + y ≤ c.words - at → (a : Arena) → Begun table w s n at a → NextNode table w a at c.words (1 + y)
+        follows q P h a H =
+            let D = faultless table n (judged w at y) (sym p ∙ no_err_unit f (sym u ∙ z)) in
+            let x = D.node in
+            let l : at + (1 + y) - at ≡ 1 + y = omega arith in
+            let m : length (take (1 + y) (drop at w)) ≡ 1 + y = length-take-le (1 + y) (drop at w) (omega (arith, length-drop at w, P.limits.word_room, P.low)) in
+            let u : take (1 + y) (drop at w) ≡ encode x = ap (λ (i : ℕ). take i (drop at w)) (sym l) ∙ D.is.words in
+            record {
+              node = x;
+              words = u;
+              long = sym m ∙ ap length u;
+              room = omega (arith, P.low);
+              good = sound_more table x a (ap (λ (i : ℕ). well table i x) (sym H.nodes) ∙ D.is.good)
+                  (ap absent (sym (F.is table a x H (well_parts table n x D.is.good).formed_so D.is.words) ∙ ap option_of q)) H.good;
+            }
+
+        pub next_good : r ≡ None → Passed table w s c n at → 1 + y ≤ c.words - at → Next table w s c n at (Some (1 + y))
         next_good q P h = record {
-          missing = λ a H k. absurd (omega arith);
-          found = λ a H k.
-              let D = faultless table n (judged w at y) (sym p ∙ z) in
-              let x = D.node in
-              let l : at + (1 + y) - at ≡ 1 + y = omega arith in
-              let m : length (take (1 + y) (drop at w)) ≡ 1 + y = length-take-le (1 + y) (drop at w) (omega (arith, length-drop at w, P.limits.word_room, P.low)) in
-              let u : take (1 + y) (drop at w) ≡ encode x = ap (λ (i : ℕ). take i (drop at w)) (sym l) ∙ D.is.words in
-              record {
-                node = x;
-                words = u;
-                long = sym m ∙ ap length u;
-                room = omega (arith, P.low);
-                good = sound_more table x a (ap (λ (i : ℕ). well table i x) (sym H.nodes) ∙ D.is.good)
-                    (ap absent (sym (F.is table a x H (well_parts table n x D.is.good).formed_so D.is.words) ∙ ap found_at q)) H.good;
-              };
+          missing = λ a H e. absurd (none_some (sym e));
+          found = λ a H k e. subst (NextNode table w a at c.words) (some_same e) (follows q P h a H);
         }
 
   module _ (P : Passed table w s c n at) where
@@ -259,9 +270,6 @@ module _ {table : ℕ} {w s : List ℕ} {c : Counters} where
     pub start_fits : n < c.nodes → Fits w64 (n * 4)
     start_fits h = omega (arith, L.start_room, L.few_starts)
 
-    pub more_fits : n < c.nodes → Fits w64 (n + 1)
-    more_fits h = omega (arith, L.start_room, L.few_starts)
-
     words_are : take at w ≡ flat P.view
     words_are = unpad (take at w) (flat P.view) P.begun.words (sym (passed_words P) ∙ P.begun.total)
 
@@ -295,12 +303,12 @@ module _ {table : ℕ} {w s : List ℕ} {c : Counters} where
     pub bad_start : {x : ℕ} → n < c.nodes → x ≡ get_or s n 0 → (x ≡ at → ⊥) → false ≡ is_sound table w s c
     bad_start h e f = none_holds table w s c (λ b H. f (e ∙ start_is b H h))
 
-    pub bad_node : {r : ℕ} → n < c.nodes → Next table w s c n at r → r ≡ 0 → false ≡ is_sound table w s c
+    pub bad_node : {r : std.Option ℕ} → n < c.nodes → Next table w s c n at r → r ≡ None → false ≡ is_sound table w s c
     bad_node h N z = none_holds table w s c (λ b H. N.missing P.view P.begun z _ (the_next b H h))
 
-    module _ {r : ℕ} (N : Next table w s c n at r) (z : r ≡ 0 → ⊥) where
+    module _ {o : std.Option ℕ} (N : Next table w s c n at o) {r : ℕ} (z : o ≡ Some r) where
       it : NextNode table w P.view at c.words r
-      it = N.found P.view P.begun z
+      it = N.found P.view P.begun r z
 
       pub sum_fits : Fits w64 (at + r)
       sum_fits = omega (arith, it.room, L.word_room, L.few_words)
@@ -378,21 +386,21 @@ module _ {table : ℕ} {w s : List ℕ} {c : Counters} where
     pub reading_marked : Marked table w s c n at filter
     reading_marked = record { passed = R.upto.passed; covers = R.covers }
 
-    module _ {r : ℕ} (N : Next table w s c n at r) (z : r ≡ 0 → ⊥) where
-      pub reading_more : {x : ℕ} {filter' : List ℕ} → NextSets w at filter r filter' → n < c.nodes → x ≡ get_or s n 0 → x ≡ at → Reading table w s c (n + 1) (at + r) filter'
+    module _ {o : std.Option ℕ} (N : Next table w s c n at o) {r : ℕ} (z : o ≡ Some r) where
+      pub reading_more : {x : ℕ} {filter' : List ℕ} → NextSets w at filter o filter' → n < c.nodes → x ≡ get_or s n 0 → x ≡ at → Reading table w s c (n + 1) (at + r) filter'
       unfolding upto_more
       reading_more S h e q =
           let I = it R.upto N z in
           record {
             upto = upto_more R.upto N z h e q;
-            covers = covers_more (S.is z) I.node R.covers (ap hash_of I.words);
+            covers = covers_more (S.is r z) I.node R.covers (ap hash_of I.words);
           }
 
 -- ---- the bits that are set with a node
-pub none_set : {w : List ℕ} {at : ℕ} {filter filter' : List ℕ} → NextSets w at filter 0 filter'
-none_set = record { is = λ z. absurd (z refl) }
+pub none_set : {w : List ℕ} {at : ℕ} {filter filter' : List ℕ} → NextSets w at filter None filter'
+none_set = record { is = λ k e. absurd (none_some e) }
 
-pub node_set : {w : List ℕ} {at : ℕ} (y : ℕ) {h : ℕ} {filter filter' : List ℕ} → h ≡ hash_of (judged w at y) → Sets filter h filter' → NextSets w at filter (1 + y) filter'
+pub node_set : {w : List ℕ} {at : ℕ} (y : ℕ) {h : ℕ} {filter filter' : List ℕ} → h ≡ hash_of (judged w at y) → Sets filter h filter' → NextSets w at filter (Some (1 + y)) filter'
 node_set {w} {at} y {filter = filter} {filter'} e S =
     let l : at + (1 + y) - at ≡ 1 + y = omega arith in
-    record { is = λ z. subst (λ (k : ℕ). Sets filter k filter') (e ∙ ap (λ (i : ℕ). hash_of (take i (drop at w))) l) S }
+    record { is = λ k q. subst (λ (k : ℕ). Sets filter k filter') (e ∙ ap (λ (i : ℕ). hash_of (take i (drop at w))) (l ∙ some_same q)) S }

@@ -7,7 +7,10 @@ use mathlib.Core.Option.{Option, none, some}
 use native.Mathlib.Omega.{arith}
 use lib.ListN.{length}
 use borrow.Author.Tests.{not-true, not-false}
-use Rattle.types.specs.Out.{Out, ok, refuse}
+use Rattle.std.specs.Prelude.{Ok, Err}
+use Rattle.types.specs.declared.refusal.Refusal.TheVariants as refusal
+use Rattle.types.specs.declared.refusal.Refusal.{Refusal}
+use Rattle.types.specs.Out.{Out}
 use Rattle.types.specs.Arena.{Arena}
 use Rattle.types.specs.Memory.{Holds, arena_of}
 use Rattle.types.specs.Reply.{tabled, judged}
@@ -16,17 +19,13 @@ use Rattle.types.proofs.Tests.{true_false}
 use Rattle.types.proofs.Memories.{arena_of_holds, holds_arena_of}
 use Rattle.types.proofs.Replies.{tabled_no, tabled_yes, judged_no, judged_yes}
 use Rattle.names.specs.Table.{Name, names_of}
-use Rattle.names.specs.Reply.{table_reply, table_out}
-use Rattle.names.specs.declared.Table.{Table}
-use Rattle.names.specs.declared.Table.TheVariants as table
+use Rattle.names.specs.Reply.{table_reply}
 use Rattle.names.specs.Inner.{Listable}
 use Rattle.names.proofs.Replies.{counted, faulty}
 use Rattle.names.proofs.Tables.{names_of_is}
 use Rattle.names.proofs.Places.{table_listable}
 use Rattle.node_store.specs.Inner.Stored.{Lent}
-use Rattle.soundness.specs.Inner.Sound.{is_some, is_sound, lent_reply, judged_out}
-use Rattle.soundness.specs.declared.Judged.{Judged}
-use Rattle.soundness.specs.declared.Judged.TheVariants as verdict
+use Rattle.soundness.specs.Inner.Sound.{is_some, is_sound, lent_reply}
 
 -- the table's names and the arena that memory holds under them
 pub record Held (t w s : List ℕ) (c : Counters) (n : ℕ) : Type 0 where
@@ -59,81 +58,80 @@ module _ (t w s : List ℕ) (c : Counters) where
       go (some ns) p = memory ns p (arena_of (length ns) w s c) refl
 
   module _ {A : Type 0} (f : List Name → Arena → Out A) where
-    asked_1 : names_of t ≡ none → asked t w s c f ≡ refuse 1
+    asked_1 : names_of t ≡ none → asked t w s c f ≡ Err refusal.BadTable
     asked_1 p = tabled_no (λ (ns : List Name). judged (length ns) w s c (f ns)) (names_of t) p
 
-    asked_2 : (ns : List Name) → names_of t ≡ some ns → ((a : Arena) → Holds (length ns) w s c a → ⊥) → asked t w s c f ≡ refuse 2
+    asked_2 : (ns : List Name) → names_of t ≡ some ns → ((a : Arena) → Holds (length ns) w s c a → ⊥) → asked t w s c f ≡ Err refusal.UnsoundArena
     asked_2 ns p h = tabled_yes (λ (ms : List Name). judged (length ms) w s c (f ms)) (names_of t) ns p ∙ judged_no (length ns) w s c (f ns) h
 
     asked_both : (ns : List Name) → names_of t ≡ some ns → (a : Arena) → Holds (length ns) w s c a → asked t w s c f ≡ f ns a
     asked_both ns p a H = tabled_yes (λ (ms : List Name). judged (length ms) w s c (f ms)) (names_of t) ns p ∙ judged_yes (length ns) w s c (f ns) a H
 
   abbrev count : List Name → Arena → Out ℕ
-  count ns a = ok (length ns)
+  count ns a = Ok (length ns)
 
-  reply_good : (n : ℕ) → Held t w s c n → lent_reply t w s c ≡ ok n
+  reply_good : (n : ℕ) → Held t w s c n → lent_reply t w s c ≡ Ok n
   unfolding lent_reply
   reply_good n H =
-      asked_both count H.names H.is H.view (subst (λ (k : ℕ). Holds k w s c H.view) H.count H.holds) ∙ ap ok (sym H.count)
+      asked_both count H.names H.is H.view (subst (λ (k : ℕ). Holds k w s c H.view) H.count H.holds) ∙ ap Ok (sym H.count)
 
-  reply_1 : names_of t ≡ none → lent_reply t w s c ≡ refuse 1
+  reply_1 : names_of t ≡ none → lent_reply t w s c ≡ Err refusal.BadTable
   unfolding lent_reply
   reply_1 = asked_1 count
 
-  reply_2 : (ns : List Name) → names_of t ≡ some ns → ((a : Arena) → Holds (length ns) w s c a → ⊥) → lent_reply t w s c ≡ refuse 2
+  reply_2 : (ns : List Name) → names_of t ≡ some ns → ((a : Arena) → Holds (length ns) w s c a → ⊥) → lent_reply t w s c ≡ Err refusal.UnsoundArena
   unfolding lent_reply
   reply_2 = asked_2 count
 
   -- ---- what `judge` answers
-  module _ {r : Table} (e : table_out r ≡ table_reply t) where
-    pub verdict_1 : {f : ℕ} → r ≡ table.Refused f → judged_out (verdict.Refused 1) ≡ lent_reply t w s c
-    verdict_1 p = sym (reply_1 (faulty e p).is)
+  pub verdict_1 : {e : Refusal} → Err e ≡ table_reply t → Err e ≡ lent_reply t w s c
+  verdict_1 h = let F = faulty h in ap {B = Out ℕ} Err F.refusal ∙ sym (reply_1 F.is)
 
-    module _ {n : ℕ} (p : r ≡ table.Names n) {b : Bool} (q : b ≡ is_sound n w s c) where
-      pub verdict_2 : not b ≡ true → judged_out (verdict.Refused 2) ≡ lent_reply t w s c
-      unfolding is_sound
-      verdict_2 g =
-          let C = counted e p in
-          sym (reply_2 C.names C.is (λ a H.
-          true_false (sym (ap is_some (arena_of_holds (subst (λ (k : ℕ). Holds k w s c a) (sym C.count) H))) ∙ sym q ∙ not-true b g)))
+  module _ {n : ℕ} (e : Ok n ≡ table_reply t) {b : Bool} (q : b ≡ is_sound n w s c) where
+    pub verdict_2 : not b ≡ true → Err refusal.UnsoundArena ≡ lent_reply t w s c
+    unfolding is_sound
+    verdict_2 g =
+        let C = counted e in
+        sym (reply_2 C.names C.is (λ a H.
+        true_false (sym (ap is_some (arena_of_holds (subst (λ (k : ℕ). Holds k w s c a) (sym C.count) H))) ∙ sym q ∙ not-true b g)))
 
-      pub verdict_names : not b ≡ false → judged_out (verdict.Names n) ≡ lent_reply t w s c
-      unfolding is_sound
-      verdict_names g = go (arena_of n w s c) refl (sym q ∙ not-false b g)
-        where
-          go : (o : Option Arena) → arena_of n w s c ≡ o → is_some o ≡ true → ok n ≡ lent_reply t w s c
-          go none u v = absurd (true_false (sym v))
-          go (some a) u v = let C = counted e p in sym (reply_good n (record { names = C.names; is = C.is; count = C.count; view = a; holds = holds_arena_of u }))
+    pub verdict_names : not b ≡ false → Ok n ≡ lent_reply t w s c
+    unfolding is_sound
+    verdict_names g = go (arena_of n w s c) refl (sym q ∙ not-false b g)
+      where
+        go : (o : Option Arena) → arena_of n w s c ≡ o → is_some o ≡ true → Ok n ≡ lent_reply t w s c
+        go none u v = absurd (true_false (sym v))
+        go (some a) u v = let C = counted e in sym (reply_good n (record { names = C.names; is = C.is; count = C.count; view = a; holds = holds_arena_of u }))
 
 -- ---- what its callers learn
-module _ (t w s : List ℕ) (c : Counters) {r : Judged} (e : judged_out r ≡ lent_reply t w s c) where
-  pub lent_names : {n : ℕ} → r ≡ verdict.Names n → Held t w s c n
-  lent_names {n} p = go (lent t w s c) (sym (ap judged_out p) ∙ e)
+module _ (t w s : List ℕ) (c : Counters) where
+  pub lent_refused : {A : Type 0} (f : List Name → Arena → Out A) {e : Refusal} → Err e ≡ lent_reply t w s c → Err e ≡ tabled (names_of t) (λ (ns : List Name). judged (length ns) w s c (f ns))
+  lent_refused {A} f {e} q = go (lent t w s c)
     where
-      go : Verdict t w s c → ok n ≡ lent_reply t w s c → Held t w s c n
-      go (good m H) q = let h = reply_good t w s c m H in let k : m ≡ n = cc in subst (Held t w s c) k H
-      go (bad_table u) q = let h = reply_1 t w s c u in let z : ◌≡◌ {A = ℕ} 0 1 = cc in absurd (omega arith)
-      go (bad_memory ns u v) q = let h = reply_2 t w s c ns u v in let z : ◌≡◌ {A = ℕ} 0 1 = cc in absurd (omega arith)
+      go : Verdict t w s c → Err e ≡ asked t w s c f
+      go (good m H) = let h = reply_good t w s c m H in let z : ◌≡◌ {A = ℕ} 0 1 = cc in absurd (omega arith)
+      go (bad_table u) = let h = reply_1 t w s c u in let k : e ≡ refusal.BadTable = cc in ap {B = Out A} Err k ∙ sym (asked_1 t w s c f u)
+      go (bad_memory ns u v) = let h = reply_2 t w s c ns u v in let k : e ≡ refusal.UnsoundArena = cc in ap {B = Out A} Err k ∙ sym (asked_2 t w s c f ns u v)
 
-  pub lent_refused : {A : Type 0} (f : List Name → Arena → Out A) {n : ℕ} → r ≡ verdict.Refused n → tabled (names_of t) (λ (ns : List Name). judged (length ns) w s c (f ns)) ≡ refuse n
-  lent_refused {A} f {n} p = go (lent t w s c) (sym (ap judged_out p) ∙ e)
-    where
-      go : Verdict t w s c → refuse n ≡ lent_reply t w s c → asked t w s c f ≡ refuse n
-      go (good m H) q = let h = reply_good t w s c m H in let z : ◌≡◌ {A = ℕ} 0 1 = cc in absurd (omega arith)
-      go (bad_table u) q = let h = reply_1 t w s c u in let k : 1 ≡ n = cc in asked_1 t w s c f u ∙ ap refuse k
-      go (bad_memory ns u v) q = let h = reply_2 t w s c ns u v in let k : 2 ≡ n = cc in asked_2 t w s c f ns u v ∙ ap refuse k
+  module _ {n : ℕ} (q : Ok n ≡ lent_reply t w s c) where
+    pub lent_names : Held t w s c n
+    lent_names = go (lent t w s c)
+      where
+        go : Verdict t w s c → Held t w s c n
+        go (good m H) = let h = reply_good t w s c m H in let k : m ≡ n = cc in subst (Held t w s c) k H
+        go (bad_table u) = let h = reply_1 t w s c u in let z : ◌≡◌ {A = ℕ} 0 1 = cc in absurd (omega arith)
+        go (bad_memory ns u v) = let h = reply_2 t w s c ns u v in let z : ◌≡◌ {A = ℕ} 0 1 = cc in absurd (omega arith)
 
-  module _ {n : ℕ} (p : r ≡ verdict.Names n) where
     pub lent_known : Lent w s c
-    lent_known = let L = lent_names p in record { table = n; view = L.view; holds = L.holds }
+    lent_known = let L = lent_names in record { table = n; view = L.view; holds = L.holds }
 
     pub lent_listable : Listable t
-    lent_listable = let L = lent_names p in table_listable (names_of_is t L.names L.is)
+    lent_listable = let L = lent_names in table_listable (names_of_is t L.names L.is)
 
     -- what is answered of every arena that memory holds is the call's answer
     pub lent_done : {A : Type 0} (f : Arena → Out A) {o : Out A} → ((k : ℕ) (a : Arena) → Holds k w s c a → o ≡ f a)
         → o ≡ tabled (names_of t) (λ (ns : List Name). judged (length ns) w s c f)
     lent_done f I =
-        let L = lent_names p in
+        let L = lent_names in
         let H : Holds (length L.names) w s c L.view = subst (λ (i : ℕ). Holds i w s c L.view) L.count L.holds in
         I n L.view L.holds ∙ sym (asked_both t w s c (λ (ns : List Name). f) L.names L.is L.view H)

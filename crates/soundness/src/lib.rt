@@ -3,26 +3,23 @@
 
 ghost use Rattle.std.specs.Prelude.{◌≡◌};
 ghost use Rattle.types.specs.Node.{below};
-ghost use Rattle.soundness.specs.Inner.Sound.{is_sound, Limits, Within, lent_reply, judged_out};
+ghost use Rattle.soundness.specs.Inner.Sound.{is_sound, Limits, Within, lent_reply};
 ghost use Rattle.soundness.specs.Inner.Zero.{Alike, four_zero};
 ghost use Rattle.soundness.specs.Inner.Reading.{Marked, Next, NextSets};
 
-use names::{Table, check_names};
-use node_faults::fault;
+use names::check_names;
+use node_faults::check_node;
 use node_filter::{find_filtered, hash, set_bits};
-use node_store::stored::Found;
-use types::Counters;
 use types::arc_ty::{Head, wide};
+use types::{Counters, Refusal};
 
 // Whether every word is zero. No word ends the loop early, so that the compiler can take several in a turn.
 fn few_zero(words: &[u32]) -> bool
     ensures { result ≡ below 1 words.now }
 {
-    let mut ones: u32 = 0;
-    let mut i = 0;
-    while i < words.len() {
-        ones = ones | words[i];
-        i += 1;
+    let mut ones = 0;
+    for word in words {
+        ones |= *word;
     }
     ones == 0
 }
@@ -32,11 +29,9 @@ fn four_zero(a: &[u32], b: &[u32], c: &[u32], d: &[u32]) -> bool
     requires { Alike a.now b.now c.now d.now }
     ensures { result ≡ four_zero a.now b.now c.now d.now }
 {
-    let mut ones: u32 = 0;
-    let mut i = 0;
-    while i < a.len() {
+    let mut ones = 0;
+    for i in 0..a.len() {
         ones = ones | a[i] | b[i] | c[i] | d[i];
-        i += 1;
     }
     ones == 0
 }
@@ -76,8 +71,7 @@ fn within(words: &[u32], starts: &[u32], c: Counters) -> bool
     all_zero(&starts[nodes..])
 }
 
-// How many words the node takes that begins at `at` and may follow the n nodes before it, which are in the filter, as it is then;
-// or 0.
+// How many words the node takes that begins at `at` and may follow the n nodes before it, which are in the filter, as it is then.
 fn next_node(
     words: &[u32],
     starts: &[u32],
@@ -86,36 +80,35 @@ fn next_node(
     n: usize,
     at: usize,
     filter: &mut [u64; 2048],
-) -> usize
+) -> Option<usize>
     requires { Marked names words.now starts.now c n at filter.old }
     ensures next { Next names words.now starts.now c n at result }
     ensures next_sets { NextSets words.now at filter.old result filter.new }
 {
     let used = c.words;
     if at >= used {
-        return 0;
+        return None;
     }
     let head = Head { word: words[at] };
     let len = 1 + head.count();
     if used - at < len {
-        return 0;
+        return None;
     }
     let end = at + len;
     let node = &words[at..end];
-    if fault(node, n, names) != 0 {
-        return 0;
+    if check_node(node, n, names).is_err() {
+        return None;
     }
     let older = Counters {
         nodes: n,
         words: at,
     };
     let h = hash(node);
-    let found = find_filtered(&words[..at], &starts[..n], older, node, h, filter);
-    if let Found::At(_) = found {
-        return 0;
+    if let Some(_) = find_filtered(&words[..at], &starts[..n], older, node, h, filter) {
+        return None;
     }
     set_bits(filter, h);
-    len
+    Some(len)
 }
 
 // Whether the words in use are nodes without gap, each where its start says.
@@ -125,17 +118,14 @@ fn nodes_sound(words: &[u32], starts: &[u32], c: Counters, names: usize) -> bool
 {
     let mut filter = [0u64; 2048];
     let mut at = 0;
-    let mut n = 0;
-    while n < c.nodes {
+    for n in 0..c.nodes {
         if wide(starts[n]) != at {
             return false;
         }
-        let len = next_node(words, starts, c, names, n, at, &mut filter);
-        if len == 0 {
+        let Some(len) = next_node(words, starts, c, names, n, at, &mut filter) else {
             return false;
-        }
+        };
         at += len;
-        n += 1;
     }
     at == c.words
 }
@@ -150,23 +140,14 @@ pub fn sound(words: &[u32], starts: &[u32], c: Counters, names: usize) -> bool
     nodes_sound(words, starts, c, names)
 }
 
-// The count of names under which lent memory holds an arena, or the number of a refusal.
-#[derive(Clone, Copy)]
-pub enum Judged {
-    Names(usize),
-    Refused(u32),
-}
-
-// What every call open to a host asks first of the table and the memory that it is lent: 1, then 2.
-pub fn judge(table: &[u8], words: &[u32], starts: &[u32], c: Counters) -> Judged
-    ensures { judged_out result ≡ lent_reply table.now words.now starts.now c }
+// The count of names under which lent memory holds an arena: what every call open to a host asks first of the table and the memory
+// that it is lent.
+pub fn judge(table: &[u8], words: &[u32], starts: &[u32], c: Counters) -> Result<usize, Refusal>
+    ensures { result ≡ lent_reply table.now words.now starts.now c }
 {
-    let names = check_names(table);
-    let Table::Names(count) = names else {
-        return Judged::Refused(1);
-    };
+    let count = check_names(table)?;
     if !sound(words, starts, c, count) {
-        return Judged::Refused(2);
+        return Err(Refusal::UnsoundArena);
     }
-    Judged::Names(count)
+    Ok(count)
 }

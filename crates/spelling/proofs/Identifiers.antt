@@ -1,73 +1,63 @@
 -- Identifiers, byte by byte: once all bytes passed go on with it, the rest decides.
-use Prim.Native.Nat.{ℕ, suc, ◌+◌, ◌<◌, ◌≤◌}
+use Prim.Native.Nat.{ℕ}
 use mathlib.Core.Path.{◌≡◌, refl, sym, ap, ◌∙◌}
 use mathlib.Core.Bool.{Bool, true, false, not, ◌&&◌, ◌||◌, or_assoc}
 use mathlib.Core.List.{List, [], ◌∷◌}
 use native.Mathlib.Omega.{arith}
-use native.Mathlib.Numerals.{add-one}
-use lib.ListN.{length, get_or, drop, drop_of_length-le}
-use lib.Seq.{drop-cons}
+use lib.ListN.{length}
 use lib.Dec.{leb, eqb}
-use borrow.Author.Tests.{not-true, not-false}
+use Rattle.std.specs.List.{list_all}
+use Rattle.std.specs.Char.{is_ascii_alphabetic, is_ascii_digit}
 use Rattle.spelling.specs.Spelling.{letter, begins, continues, all_continue, identifier, reserved, plain}
 
 -- ---- one byte
+pub letter_told : (b : ℕ) → is_ascii_alphabetic b ≡ letter b
+unfolding letter
+letter_told b = go (leb 65 b && leb b 90) (leb 97 b && leb b 122)
+  where
+    go : (x y : Bool) → (x || y) ≡ (y || x)
+    go true true = refl
+    go true false = refl
+    go false true = refl
+    go false false = refl
+
 pub begins_told : (b : ℕ) {r : Bool} → r ≡ letter b → (r || eqb b 95) ≡ begins b
 unfolding begins
 begins_told b e = ap (λ (x : Bool). x || eqb b 95) e
 
-pub continues_told : (b : ℕ) {r : Bool} → r ≡ begins b → (((r || (leb 48 b && leb b 57)) || eqb b 39) || eqb b 45) ≡ continues b
+pub continues_told : (b : ℕ) {r d : Bool} → r ≡ begins b → d ≡ is_ascii_digit b → (((r || d) || eqb b 39) || eqb b 45) ≡ continues b
 unfolding continues
-continues_told b {r} e =
-    or_assoc (r || (leb 48 b && leb b 57)) (eqb b 39) (eqb b 45) ∙ or_assoc r (leb 48 b && leb b 57) (eqb b 39 || eqb b 45)
-    ∙ ap (λ (x : Bool). x || ((leb 48 b && leb b 57) || (eqb b 39 || eqb b 45))) e
+continues_told b {r} {d} e q =
+    or_assoc (r || d) (eqb b 39) (eqb b 45) ∙ or_assoc r d (eqb b 39 || eqb b 45) ∙ (λ i. e i || (q i || (eqb b 39 || eqb b 45)))
 
--- ---- all bytes: whether the name is an identifier is whether its bytes from i on go on with one
-pub record Passed (n : List ℕ) (i : ℕ) : Type 0 where
-  pub high : i ≤ length n
-  pub rest : identifier n ≡ all_continue (drop i n)
+-- ---- all bytes
+all_told : (bs : List ℕ) → list_all continues bs ≡ all_continue bs
+unfolding all_continue
+all_told [] = refl
+all_told (b ∷ bs) = ap (λ (x : Bool). continues b && x) (all_told bs)
 
 pub identifier_none : (n : List ℕ) → length n ≡ 0 → false ≡ identifier n
 unfolding identifier
 identifier_none [] e = refl
 identifier_none (b ∷ n) e = absurd (omega arith)
 
-first_told : (n : List ℕ) {r : Bool} → r ≡ begins (get_or n 0 0) → 1 ≤ length n → identifier n ≡ (r && all_continue (drop 1 n))
-unfolding identifier
-first_told [] e h = absurd (omega arith)
-first_told (b ∷ n) e h = ap (λ (x : Bool). x && all_continue n) (sym e)
+module _ {n : List ℕ} {b : ℕ} {bs : List ℕ} (s : n ≡ b ∷ bs) {r : Bool} (e : r ≡ begins b) where
+  first_told : identifier n ≡ (r && all_continue bs)
+  unfolding identifier
+  first_told = ap identifier s ∙ ap (λ (x : Bool). x && all_continue bs) (sym e)
 
-module _ (n : List ℕ) where
-  module _ {r : Bool} (e : r ≡ begins (get_or n 0 0)) (h : length n ≡ 0 → ⊥) where
-    pub first_not : not r ≡ true → false ≡ identifier n
-    first_not f = sym (first_told n e (omega arith) ∙ ap (λ (x : Bool). x && all_continue (drop 1 n)) (not-true r f))
+  pub first_not : r ≡ false → r ≡ identifier n
+  first_not f = f ∙ sym (first_told ∙ ap (λ (x : Bool). x && all_continue bs) f)
 
-    pub first_passed : not r ≡ false → Passed n 1
-    first_passed t = record { high = omega arith; rest = first_told n e (omega arith) ∙ ap (λ (x : Bool). x && all_continue (drop 1 n)) (not-false r t) }
-
-module _ {n : List ℕ} where
-  module _ {i : ℕ} (P : Passed n i) where
-    module _ {r : Bool} (e : r ≡ continues (get_or n i 0)) (h : i < length n) where
-      here : identifier n ≡ (r && all_continue (drop (suc i) n))
-      unfolding all_continue
-      here = P.rest ∙ ap all_continue (drop-cons n i 0 h) ∙ ap (λ (x : Bool). x && all_continue (drop (suc i) n)) (sym e)
-
-      pub byte_not : not r ≡ true → false ≡ identifier n
-      byte_not f = sym (here ∙ ap (λ (x : Bool). x && all_continue (drop (suc i) n)) (not-true r f))
-
-      pub byte_passed : not r ≡ false → Passed n (i + 1)
-      byte_passed t = record { high = omega arith; rest = here ∙ ap (λ (x : Bool). x && all_continue (drop (suc i) n)) (not-false r t) ∙ ap (λ (k : ℕ). all_continue (drop k n)) (sym (add-one i)) }
-
-    pub all_passed : length n ≤ i → true ≡ identifier n
-    unfolding all_continue
-    all_passed h = sym (P.rest ∙ ap all_continue (drop_of_length-le n h))
+  pub first_then : r ≡ true → {x : Bool} → x ≡ list_all continues bs → x ≡ identifier n
+  first_then t q = q ∙ all_told bs ∙ sym (first_told ∙ ap (λ (x : Bool). x && all_continue bs) t)
 
 -- ---- plain names
 module _ (n : List ℕ) {r : Bool} (e : r ≡ identifier n) where
-  pub plain_not : not r ≡ true → false ≡ plain n
+  pub plain_not : r ≡ false → r ≡ plain n
   unfolding plain
-  plain_not f = sym (ap (λ (x : Bool). x && not (reserved n)) (sym e ∙ not-true r f))
+  plain_not f = f ∙ sym (ap (λ (x : Bool). x && not (reserved n)) (sym e ∙ f))
 
-  pub plain_unless : not r ≡ false → {s : Bool} → s ≡ reserved n → not s ≡ plain n
+  pub plain_unless : r ≡ true → {s : Bool} → s ≡ reserved n → not s ≡ plain n
   unfolding plain
-  plain_unless t q = ap not q ∙ sym (ap (λ (x : Bool). x && not (reserved n)) (sym e ∙ not-false r t))
+  plain_unless t q = ap not q ∙ sym (ap (λ (x : Bool). x && not (reserved n)) (sym e ∙ t))

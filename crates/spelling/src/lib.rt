@@ -7,11 +7,8 @@ ghost use Rattle.std.specs.Prelude.{◌<◌, ◌≡◌, length, drop};
 ghost use Rattle.types.specs.Same.{same_numbers};
 ghost use Rattle.spelling.specs.Spelling.{letter, begins, continues, identifier, reserved, plain, backslashed};
 
-use names::compare;
-use types::Ordering;
-
 // The two ways to print a name.
-#[derive(Clone, Copy)]
+#[derive(Clone, Copy, Debug, PartialEq, Eq)]
 pub enum Spelling {
     Bare,
     Nix,
@@ -21,7 +18,7 @@ pub enum Spelling {
 fn letter(byte: u8) -> bool
     ensures { result ≡ letter byte }
 {
-    ((byte >= b'a') & (byte <= b'z')) | ((byte >= b'A') & (byte <= b'Z'))
+    byte.is_ascii_alphabetic()
 }
 
 // Whether an identifier may begin with this byte.
@@ -35,71 +32,45 @@ fn begins(byte: u8) -> bool
 fn continues(byte: u8) -> bool
     ensures { result ≡ continues byte }
 {
-    begins(byte) | ((byte >= b'0') & (byte <= b'9')) | (byte == b'\'') | (byte == b'-')
+    begins(byte) | byte.is_ascii_digit() | (byte == b'\'') | (byte == b'-')
 }
 
 // Whether the name is an identifier, reserved or not.
 fn identifier(name: &[u8]) -> bool
     ensures { result ≡ identifier name.now }
 {
-    if name.len() == 0 {
+    let Some((first, rest)) = name.split_first() else {
         return false;
-    }
-    if !begins(name[0]) {
-        return false;
-    }
-    let mut i = 1;
-    while i < name.len() {
-        if !continues(name[i]) {
-            return false;
-        }
-        i += 1;
-    }
-    true
+    };
+    begins(*first) && rest.iter().all(|byte| continues(*byte))
 }
 
 // Whether the two are one name.
 fn same(a: &[u8], b: &[u8]) -> bool
     ensures { result ≡ same_numbers a.now b.now }
 {
-    let order = compare(a, b);
-    match order {
-        Ordering::Less => false,
-        Ordering::Equal => true,
-        Ordering::Greater => false,
-    }
+    a == b
 }
 
 // Whether the name is a reserved word. Only words as long as the name are compared.
 fn reserved(name: &[u8]) -> bool
     ensures { result ≡ reserved name.now }
 {
-    if name.len() == 2 {
-        return same(name, b"if") | same(name, b"in") | same(name, b"or");
+    match name.len() {
+        2 => same(name, b"if") | same(name, b"in") | same(name, b"or"),
+        3 => same(name, b"let") | same(name, b"rec"),
+        4 => same(name, b"else") | same(name, b"then") | same(name, b"with"),
+        6 => same(name, b"assert"),
+        7 => same(name, b"inherit"),
+        _ => false,
     }
-    if name.len() == 3 {
-        return same(name, b"let") | same(name, b"rec");
-    }
-    if name.len() == 4 {
-        return same(name, b"else") | same(name, b"then") | same(name, b"with");
-    }
-    if name.len() == 6 {
-        return same(name, b"assert");
-    }
-    if name.len() == 7 {
-        return same(name, b"inherit");
-    }
-    false
 }
 
 // Whether the manual writes the name without quotes.
 pub fn plain(name: &[u8]) -> bool
     ensures { result ≡ plain name.now }
 {
-    if !identifier(name) {
-        return false;
-    }
-    !reserved(name)
+    identifier(name) && !reserved(name)
 }
 
 // Whether a backslash stands before byte i of a name in quotes.

@@ -23,7 +23,7 @@ use Rattle.types.proofs.Shorts.{text_short}
 use Rattle.names.specs.Table.{Name, split, name_text}
 use Rattle.spelling.specs.Spelling.{spelled}
 use Rattle.spelling.specs.declared.Spelling.{Spelling}
-use Rattle.node_order.proofs.Splits.{body_lent}
+use Rattle.types.proofs.Lists.{body_lent}
 use Rattle.node_store.specs.Inner.Children.{ChildWords}
 use Rattle.node_store.proofs.Offspring.{as_many}
 use Rattle.appending.specs.Parts.{when, between}
@@ -258,14 +258,6 @@ labels_set ws p q sp ns i W =
     writes_as
     (ap (λ (d : List ℕ). label sp ns (tag_of kinds.attr_set (head_open (get_or ws 0 0)) (head_dynamic (get_or ws 0 0)) d) i) (body_lent ws) ∙ ap (λ (t : Tag). label sp ns t i) (sym (tag_said kinds.attr_set ws p q)))
     W
-
--- ---- how many words of a set are fields
-module _ (h : ℕ) (d : List ℕ) {y : Bool} (p : y ≡ head_dynamic h) where
-  pub fields_dynamic : y ≡ true → length d - 1 ≡ length d - bit (head_dynamic h)
-  fields_dynamic q = let e : bit (head_dynamic h) ≡ 1 = ap bit (sym p ∙ q) in omega (arith, e)
-
-  pub fields_all : y ≡ false → length d ≡ length d - bit (head_dynamic h)
-  fields_all q = let e : bit (head_dynamic h) ≡ 0 = ap bit (sym p ∙ q) in omega (arith, e)
 
 -- ---- what ends a set
 module _ (h : ℕ) {o : Bool} (p : o ≡ head_open h) (m : ℕ) {b : List ℕ} {c : ℕ} {b' : List ℕ} {e : ℕ} where

@@ -32,10 +32,7 @@ use types::short_text::ShortText;
 fn first_word(body: &[u32]) -> u32
     ensures { result ≡ get_or body.now 0 0 }
 {
-    if body.len() == 0 {
-        return 0;
-    }
-    body[0]
+    body.first().copied().unwrap_or(0)
 }
 
 // A short text: a primitive type, a type variable, a number.
@@ -85,34 +82,22 @@ pub fn write_beginning(
 {
     let kind = kind_in(node);
     let body = &node[1..];
-    if kind == Head::BOTTOM {
-        return append(text, count, b"never");
+    match kind {
+        Head::BOTTOM => append(text, count, b"never"),
+        Head::TOP => append(text, count, b"any"),
+        Head::PRIMITIVE => {
+            let primitive = PrimitiveTy {
+                code: first_word(body),
+            };
+            write_short(text, count, primitive.text())
+        }
+        Head::TY_VAR => write_short(text, count, tyvar_name(first_word(body))),
+        Head::LIST => append(text, count, b"["),
+        Head::ATTR_SET => append(text, count, b"{ "),
+        Head::NAMED => write_name(table, places, spelling, first_word(body), text, count),
+        Head::NEG => append(text, count, b"~"),
+        _ => count,
     }
-    if kind == Head::TOP {
-        return append(text, count, b"any");
-    }
-    if kind == Head::PRIMITIVE {
-        let primitive = PrimitiveTy {
-            code: first_word(body),
-        };
-        return write_short(text, count, primitive.text());
-    }
-    if kind == Head::TY_VAR {
-        return write_short(text, count, tyvar_name(first_word(body)));
-    }
-    if kind == Head::LIST {
-        return append(text, count, b"[");
-    }
-    if kind == Head::ATTR_SET {
-        return append(text, count, b"{ ");
-    }
-    if kind == Head::NAMED {
-        return write_name(table, places, spelling, first_word(body), text, count);
-    }
-    if kind == Head::NEG {
-        return append(text, count, b"~");
-    }
-    count
 }
 
 // What separates child i from the one before it.
@@ -120,33 +105,20 @@ fn write_separator(node: &[u32], i: usize, text: &mut [u8], count: usize) -> usi
     requires { IsFormed node.now }
     ensures { Writes text.old count (between (separator (tag (guess node.now))) i) text.new result }
 {
-    let kind = kind_in(node);
-    if kind == Head::LAMBDA {
-        return append_after(text, count, i, b" -> ");
+    match kind_in(node) {
+        Head::LAMBDA => append_after(text, count, i, b" -> "),
+        Head::ATTR_SET => append_after(text, count, i, b", "),
+        Head::UNION => append_after(text, count, i, b" | "),
+        Head::INTERSECTION => append_after(text, count, i, b" & "),
+        _ => count,
     }
-    if kind == Head::ATTR_SET {
-        return append_after(text, count, i, b", ");
-    }
-    if kind == Head::UNION {
-        return append_after(text, count, i, b" | ");
-    }
-    if kind == Head::INTERSECTION {
-        return append_after(text, count, i, b" & ");
-    }
-    count
 }
 
 // How many body words of a set are fields.
 fn field_count(head: Head, body: &[u32]) -> usize
     ensures { result ≡ length body.now - bit (head_dynamic head.word) }
 {
-    if head.dynamic() {
-        if body.len() == 0 {
-            return 0;
-        }
-        return body.len() - 1;
-    }
-    body.len()
+    body.len().saturating_sub(usize::from(head.dynamic()))
 }
 
 // The name in a field word, with what stands between it and the field's type.

@@ -6,7 +6,9 @@ use mathlib.Core.List.{List}
 use native.Mathlib.Omega.{arith}
 use Rattle.words.specs.declared.Layout.{Layout}
 use Rattle.words.specs.declared.Layout.TheVariants as layout
-use Rattle.types.specs.Out.{Out, ok, refuse, number}
+use Rattle.std.specs.Prelude.{Ok, Err}
+use Rattle.types.specs.declared.refusal.Refusal.TheVariants as refusal
+use Rattle.types.specs.Out.{Out, checked}
 use Rattle.types.specs.Node.{Node, tag, names, encode_in, formed_in, linked, rising, well_in, well, guess_in, is_words_in, decode_in, decode, IsNodeIn}
 use Rattle.types.specs.Theorems.{DecodeOk, OkDecode, DecodeThree, DecodeFour, DecodeFive}
 use Rattle.types.proofs.Tests.{and_true, both, not_true, numbers_true, numbers_if}
@@ -14,7 +16,7 @@ use Rattle.types.proofs.Nodes.{guess_encode_in, formed_today}
 
 -- what `decode` answers, test by test
 unfoldable pub answer : Node → Bool → Bool → Bool → Out Node
-answer x b l r = elim b [ false ↦ refuse 3 | true ↦ elim l [ false ↦ refuse 4 | true ↦ elim r [ false ↦ refuse 5 | true ↦ ok x ] ] ]
+answer x b l r = elim b [ false ↦ Err refusal.MalformedNode | true ↦ elim l [ false ↦ Err refusal.OutOfRange | true ↦ elim r [ false ↦ Err refusal.UnorderedFields | true ↦ Ok x ] ] ]
 
 module _ (lay : Layout) where
   -- ---- the three parts of `well_in`
@@ -81,7 +83,7 @@ module _ (lay : Layout) where
   unfolding answer
   ok_decode_in table nodes ws x e = go (is_words_in lay ws (guess_in lay ws)) refl (linked table nodes (guess_in lay ws)) refl (rising (names (tag (guess_in lay ws)))) refl (sym (by_guess_in table nodes ws) ∙ e)
     where
-      go : (b : Bool) → is_words_in lay ws (guess_in lay ws) ≡ b → (l : Bool) → linked table nodes (guess_in lay ws) ≡ l → (r : Bool) → rising (names (tag (guess_in lay ws))) ≡ r → answer (guess_in lay ws) b l r ≡ ok x → IsNodeIn lay table nodes ws x
+      go : (b : Bool) → is_words_in lay ws (guess_in lay ws) ≡ b → (l : Bool) → linked table nodes (guess_in lay ws) ≡ l → (r : Bool) → rising (names (tag (guess_in lay ws))) ≡ r → answer (guess_in lay ws) b l r ≡ Ok x → IsNodeIn lay table nodes ws x
       go false p l q r s h = let z : ◌≡◌ {A = ℕ} 0 1 = cc in absurd (omega arith)
       go true p false q r s h = let z : ◌≡◌ {A = ℕ} 0 1 = cc in absurd (omega arith)
       go true p true q false s h = let z : ◌≡◌ {A = ℕ} 0 1 = cc in absurd (omega arith)
@@ -91,32 +93,25 @@ module _ (lay : Layout) where
           let W : WellIn table nodes (guess_in lay ws) = record { formed_so = w.0; linked_so = q; rising_so = s } in
           record { words = w.1 ∙ ap (encode_in lay) g; good = rw (← g) (parts_well_in table nodes (guess_in lay ws) W) }
 
-  -- ---- decode by its number, 0 for a node
+  -- ---- decode by its refusal, none for a node
   pub record FaultlessIn (table nodes : ℕ) (ws : List ℕ) : Type 0 where
     pub node : Node
     pub is : IsNodeIn lay table nodes ws node
 
-  pub faultless_in : (table nodes : ℕ) (ws : List ℕ) → number (decode_in lay table nodes ws) ≡ 0 → FaultlessIn table nodes ws
+  pub faultless_in : (table nodes : ℕ) (ws : List ℕ) → checked (decode_in lay table nodes ws) ≡ Ok tt → FaultlessIn table nodes ws
   unfolding answer
-  faultless_in table nodes ws e = go (is_words_in lay ws (guess_in lay ws)) refl (linked table nodes (guess_in lay ws)) refl (rising (names (tag (guess_in lay ws)))) refl (ap number (sym (by_guess_in table nodes ws)) ∙ e)
+  faultless_in table nodes ws e = go (is_words_in lay ws (guess_in lay ws)) refl (linked table nodes (guess_in lay ws)) refl (rising (names (tag (guess_in lay ws)))) refl (ap checked (sym (by_guess_in table nodes ws)) ∙ e)
     where
-      go : (b : Bool) → is_words_in lay ws (guess_in lay ws) ≡ b → (l : Bool) → linked table nodes (guess_in lay ws) ≡ l → (r : Bool) → rising (names (tag (guess_in lay ws))) ≡ r → number (answer (guess_in lay ws) b l r) ≡ 0 → FaultlessIn table nodes ws
-      go false p l q r s h = absurd (omega arith)
-      go true p false q r s h = absurd (omega arith)
-      go true p true q false s h = absurd (omega arith)
+      go : (b : Bool) → is_words_in lay ws (guess_in lay ws) ≡ b → (l : Bool) → linked table nodes (guess_in lay ws) ≡ l → (r : Bool) → rising (names (tag (guess_in lay ws))) ≡ r → checked (answer (guess_in lay ws) b l r) ≡ Ok tt → FaultlessIn table nodes ws
+      go false p l q r s h = let z : ◌≡◌ {A = ℕ} 0 1 = cc in absurd (omega arith)
+      go true p false q r s h = let z : ◌≡◌ {A = ℕ} 0 1 = cc in absurd (omega arith)
+      go true p true q false s h = let z : ◌≡◌ {A = ℕ} 0 1 = cc in absurd (omega arith)
       go true p true q true s h =
           let w = words_is_in ws (guess_in lay ws) p in
           record {
             node = guess_in lay ws;
             is = record { words = w.1; good = parts_well_in table nodes (guess_in lay ws) (record { formed_so = w.0; linked_so = q; rising_so = s }) };
           }
-
-  pub faulty_in : (table nodes : ℕ) (ws : List ℕ) → (number (decode_in lay table nodes ws) ≡ 0 → ⊥) → decode_in lay table nodes ws ≡ refuse (number (decode_in lay table nodes ws))
-  faulty_in table nodes ws f = go (decode_in lay table nodes ws) f
-    where
-      go : (o : Out Node) → (number o ≡ 0 → ⊥) → o ≡ refuse (number o)
-      go (ok x) g = absurd (g refl)
-      go (refuse m) g = refl
 
 -- ---- the same of today's layout
 abbrev pub Well : ℕ → ℕ → Node → Type 0
@@ -132,11 +127,8 @@ module _ (table nodes : ℕ) where
   pub parts_well : (x : Node) → Well table nodes x → well table nodes x ≡ true
   parts_well = parts_well_in layout.New table nodes
 
-  pub faultless : (ws : List ℕ) → number (decode table nodes ws) ≡ 0 → Faultless table nodes ws
+  pub faultless : (ws : List ℕ) → checked (decode table nodes ws) ≡ Ok tt → Faultless table nodes ws
   faultless = faultless_in layout.New table nodes
-
-  pub faulty : (ws : List ℕ) → (number (decode table nodes ws) ≡ 0 → ⊥) → decode table nodes ws ≡ refuse (number (decode table nodes ws))
-  faulty = faulty_in layout.New table nodes
 
 pub decode_ok : DecodeOk layout.New
 decode_ok = decode_ok_in layout.New

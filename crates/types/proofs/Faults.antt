@@ -14,7 +14,7 @@ use Rattle.words.specs.declared.Layout.{Layout}
 use Rattle.words.specs.declared.Layout.TheVariants as layout
 use Rattle.types.specs.Kind as kinds
 use Rattle.types.specs.Kind.{Kind, disc, kind_of, body_count, body_of}
-use Rattle.types.specs.Out.{number}
+use Rattle.types.specs.Out.{checked}
 use Rattle.types.specs.Node.{positive, negative, Field, field, primitive, list, lambda, attrset, named, Tag, members, bound, var, neg, form, Node, node, tag, children, kind, data_of, field_names, names, child_words_in, body_in, head_of, encode_in, below, matched, formed_in, linked, rising, field_of_in, tag_of_in, children_of, guess_kind_in, guess_in, is_words_in}
 use Rattle.types.specs.Fault.{flags_fit, kind_fits, head_fits, field_part, each_zero, body_fits_in, kind_body_fits_in, fits_in, kind_children, kind_names_in, children_in, words_names_in, first, fault_in}
 use Rattle.types.specs.Theorems.{ChildrenEncode, FitsWords, FaultDecode}
@@ -282,7 +282,7 @@ module _ (lay : Layout) where
       let w = made_words h k o d b t cs q M in
       rw e (is_words_yes_in lay (h ∷ b) (node t cs) (made_formed o d b l k t cs F.counted M) w)
 
-  -- number 3, both ways
+  -- malformed, both ways
   pub fits_words_in : FitsWords lay
   unfolding fits_in
   fits_words_in [] l = same_truth (is_words_in lay [] (guess_in lay [])) false (λ e. let p = words_is_in lay [] (guess_in lay []) e in absurd (omega (arith, ap length p.1, length_encode_in lay (guess_in lay [])))) (λ e. absurd (true_false (sym e)))
@@ -291,7 +291,7 @@ module _ (lay : Layout) where
       (λ e. let p = words_is_in lay (h ∷ b) (guess_in lay (h ∷ b)) e in ap (fits_in lay) p.1 ∙ fits_encode_in (guess_in lay (h ∷ b)) p.0)
       (λ e. fit_words h b (below_cons (2 ^ 32) h b l).1 (fits_fit h b e))
 
-  -- ---- numbers 4 and 5
+  -- ---- out of range, and fields unordered
   children_guess : (ws : List ℕ) → children (guess_in lay ws) ≡ children_in ws
   unfolding guess_in children_in
   children_guess [] = refl
@@ -333,7 +333,7 @@ module _ (lay : Layout) where
   unfolding linked
   linked_parts table nodes (node t cs) = refl
 
-  first_answer : (x : Node) (b l r : Bool) → number (answer x b l r) ≡ first b l r
+  first_answer : (x : Node) (b l r : Bool) → checked (answer x b l r) ≡ first b l r
   unfolding answer
   first_answer x false l r = refl
   first_answer x true false r = refl
@@ -353,7 +353,7 @@ module _ (lay : Layout) where
   pub fault_decode_in : FaultDecode lay
   unfolding fault_in
   fault_decode_in table nodes ws l =
-      ap number (by_guess_in lay table nodes ws)
+      ap checked (by_guess_in lay table nodes ws)
       ∙ first_answer (guess_in lay ws) (is_words_in lay ws (guess_in lay ws)) (linked table nodes (guess_in lay ws)) (rising (names (tag (guess_in lay ws))))
       ∙ ap (λ (f : Bool). first f (linked table nodes (guess_in lay ws)) (rising (names (tag (guess_in lay ws))))) (fits_words_in ws l)
       ∙ first_fits table nodes ws (fits_in lay ws) refl

@@ -5,8 +5,8 @@ use mathlib.Core.Bool.{true, false}
 use mathlib.Core.List.{List, [], ◌∷◌, ◌++◌, map, append_assoc}
 use native.Mathlib.Omega.{arith}
 use native.Mathlib.Nat.{le_of_suc-le-suc, not-suc-le-zero}
-use lib.ListN.{length, get_or, take, drop, set, replicate, length-append, length-replicate}
-use lib.Seq.{paste, take_at, take-length, drop-append-add, set_at}
+use lib.ListN.{length, get_or, take, drop, set, replicate, length-append, length-drop, length-replicate}
+use lib.Seq.{paste, take_all, take_at, take-length, drop-append-add, set_at}
 use lib.Dec.{ltb}
 use borrow.Author.Tests.{lt-ltb, ltb-true}
 use Rattle.types.specs.Node.{below}
@@ -70,3 +70,7 @@ map_each F G [] [] q h = refl
 map_each F G [] (c ∷ cs) q h = absurd (omega arith)
 map_each F G (m ∷ ms) [] q h = absurd (omega arith)
 map_each F G (m ∷ ms) (c ∷ cs) q h = let e = h 0 (omega arith) in let r = map_each F G ms cs (omega arith) (λ i l. h (suc i) (omega (arith, l))) in λ i. e i ∷ r i
+
+-- what is lent of a list from its second element on
+pub body_lent : {A : Type 0} (l : List A) → take (length l - 1) (drop 1 l) ≡ drop 1 l
+body_lent l = take_all (length l - 1) (drop 1 l) (omega (arith, length-drop 1 l))

@@ -6,10 +6,13 @@ use mathlib.Core.List.{List, [], ◌∷◌}
 use native.Mathlib.Omega.{arith}
 use lib.Dec.{ltb}
 use borrow.Author.Tests.{lt-ltb, le-ltb, ltb-true, ltb-false}
-use Rattle.types.specs.Order.{order, ordering_then, lexicographic, by, then_by, reversed, TotalOrder}
+use Rattle.std.proofs.lemmas.Bool.Decides.{nat_tests}
+use Rattle.std.specs.Cmp.Lexicographic.{slice_cmp}
+use Rattle.std.specs.Ordering.{nat_cmp, is_lt}
+use Rattle.types.specs.Order.{order, ordering_then, lexicographic, is_less, by, then_by, reversed, TotalOrder}
 use Rattle.types.specs.Theorems.{OrderTotal, LexicographicTotal, KeysTotal}
-use Rattle.types.specs.declared.Ordering.{Ordering}
-use Rattle.types.specs.declared.Ordering.TheVariants.{Less, Equal, Greater}
+use Rattle.std.specs.declared.cmp.Ordering.{Ordering}
+use Rattle.std.specs.declared.cmp.Ordering.TheVariants.{Less, Equal, Greater}
 
 -- ---- the three answers
 pub less_equal : Less ≡ Equal → ⊥
@@ -33,7 +36,25 @@ then_equal Less p e = absurd (less_equal e)
 then_equal Equal p e = (refl, e)
 then_equal Greater p e = absurd (equal_greater (sym e))
 
+-- what `is_lt` tells of an answer
+pub less_is : (o : Ordering) → is_lt o ≡ is_less o
+less_is Less = refl
+less_is Equal = refl
+less_is Greater = refl
+
 -- ---- numbers
+-- what `cmp` answers at numbers and at slices of them
+pub cmp_order : (m n : ℕ) → nat_cmp m n ≡ order m n
+unfolding order
+cmp_order m n = grind (arith, nat_tests)
+
+pub cmp_lexicographic : (a b : List ℕ) → slice_cmp nat_cmp a b ≡ lexicographic order a b
+unfolding lexicographic
+cmp_lexicographic [] [] = refl
+cmp_lexicographic [] (y ∷ b) = refl
+cmp_lexicographic (x ∷ a) [] = refl
+cmp_lexicographic (x ∷ a) (y ∷ b) = ap₂ ordering_then (cmp_order x y) (cmp_lexicographic a b)
+
 pub order_less : (m n : ℕ) → m < n → order m n ≡ Less
 unfolding order
 order_less m n h = rw (lt-ltb m n h, order)

@@ -5,7 +5,9 @@ use mathlib.Core.List.{List}
 use mathlib.Core.Option.{Option, none, some}
 use lib.ListN.{length}
 use borrow.Author.Tests.{lt-ltb, le-ltb}
-use Rattle.types.specs.Out.{Out, refuse, required}
+use Rattle.std.specs.Prelude.{Err}
+use Rattle.types.specs.declared.refusal.Refusal.TheVariants as refusal
+use Rattle.types.specs.Out.{Out, required}
 use Rattle.types.specs.Arena.{Arena}
 use Rattle.types.specs.Memory.{Holds}
 use Rattle.types.specs.Reply.{tabled, judged, rooted}
@@ -13,7 +15,7 @@ use Rattle.types.specs.declared.Counters.{Counters}
 use Rattle.types.proofs.Memories.{arena_of_holds, unsound}
 
 module _ {A N : Type 0} (f : N → Out A) where
-  pub tabled_no : (o : Option N) → o ≡ none → tabled o f ≡ refuse 1
+  pub tabled_no : (o : Option N) → o ≡ none → tabled o f ≡ Err refusal.BadTable
   unfolding tabled
   tabled_no o e = rw (e, required)
 
@@ -22,7 +24,7 @@ module _ {A N : Type 0} (f : N → Out A) where
   tabled_yes o n e = rw (e, required)
 
 module _ {A : Type 0} (table : ℕ) (w s : List ℕ) (c : Counters) (f : Arena → Out A) where
-  pub judged_no : ((a : Arena) → Holds table w s c a → ⊥) → judged table w s c f ≡ refuse 2
+  pub judged_no : ((a : Arena) → Holds table w s c a → ⊥) → judged table w s c f ≡ Err refusal.UnsoundArena
   unfolding judged
   judged_no h = rw (unsound h)
 
@@ -31,7 +33,7 @@ module _ {A : Type 0} (table : ℕ) (w s : List ℕ) (c : Counters) (f : Arena �
   judged_yes a h = rw (arena_of_holds h)
 
 module _ {A : Type 0} (root : ℕ) (f : Arena → Out A) (a : Arena) where
-  pub rooted_no : length a ≤ root → rooted root f a ≡ refuse 6
+  pub rooted_no : length a ≤ root → rooted root f a ≡ Err refusal.NoSuchRoot
   unfolding rooted
   rooted_no h = rw (rooted, le-ltb root (length a) h)
 

@@ -4,6 +4,10 @@ use mathlib.Core.Path.{◌≡◌, refl, sym}
 use mathlib.Core.Bool.{Bool, true, false, ◌&&◌, ◌||◌, decide}
 use mathlib.Core.List.{List}
 use native.Mathlib.Omega.{arith}
+use lib.Dec.{eqb}
+use Rattle.std.specs.Cmp.Lexicographic.{pointwise}
+use Rattle.std.proofs.lemmas.Bool.Decides.{same_from_decides, Decides-eqb}
+use Rattle.std.proofs.lemmas.Slice.Eq.{slice_eq-Decides}
 use Rattle.types.specs.Same.{same, numbers_dec, same_numbers}
 
 pub true_false : true ≡ false → ⊥
@@ -63,3 +67,7 @@ numbers_if = same_if numbers_dec
 pub numbers_not : (x y : List ℕ) → (x ≡ y → ⊥) → same_numbers x y ≡ false
 unfolding same_numbers
 numbers_not = same_not numbers_dec
+
+-- `==` on two slices of numbers
+pub numbers_eq : (x y : List ℕ) {b : Bool} → b ≡ pointwise eqb x y → b ≡ same_numbers x y
+numbers_eq x y {b} e = same_from_decides b (same_numbers x y) (slice_eq-Decides Decides-eqb x y b e) (numbers_true x y, numbers_if x y)

@@ -1,11 +1,13 @@
 -- Numbers 3, 4 and 5 read off the fields of the words, sentence by sentence: what a program tests. That they are `decode`'s, for words of
 -- 32 bits, is the theorem `fault_decode`.
-use Rattle.std.specs.Prelude.{ℕ, ◌-◌, Bool, true, false, not, ◌&&◌, List, [], ◌∷◌, map, length, get_or, take, drop, eqb, ltb}
+use Rattle.std.specs.Prelude.{ℕ, ◌-◌, Bool, true, false, not, ◌&&◌, List, [], ◌∷◌, map, length, get_or, take, drop, eqb, ltb, Ok, Err}
 use Rattle.std.proofs.Math.Option.{Option, none, some}
 use Rattle.words.specs.Words.{bit, head_kind, head_open, head_dynamic, head_zero, head_count, field_optional, field_name_in}
 use Rattle.words.specs.Words.{field_name, old_field_name, field_zero_in, field_zero, old_field_zero, child_zero}
 use Rattle.words.specs.declared.Layout.{Layout}
 use Rattle.words.specs.declared.Layout.TheVariants as layout
+use Rattle.types.specs.declared.refusal.Refusal.TheVariants as refusal
+use Rattle.types.specs.Out.{Out}
 use Rattle.types.specs.Kind.{Kind, kind_of, body_count, Body, empty, code, number, children, fields, name, body_of}
 use Rattle.types.specs.Node.{below, rising, children_of}
 
@@ -105,18 +107,18 @@ words_names_in l (h ∷ b) = kind_names_in l (kind_of (head_kind h)) (head_dynam
 abbrev pub words_names : List ℕ → List ℕ
 words_names = words_names_in layout.New
 
--- the number of the first test that fails, 0 where none does: do the words fit, are their children and names there, do the names rise?
-abbrev pub first : Bool → Bool → Bool → ℕ
-first false l r = 3
-first true false r = 4
-first true true false = 5
-first true true true = 0
+-- the refusal of the first test that fails, none where none does: do the words fit, are their children and names there, do the names rise?
+abbrev pub first : Bool → Bool → Bool → Out (Unit {0})
+first false l r = Err refusal.MalformedNode
+first true false r = Err refusal.OutOfRange
+first true true false = Err refusal.UnorderedFields
+first true true true = Ok tt
 
--- the first number that is true of a node's words, 0 where none is (01, "Who can cause which number")
-unfoldable pub fault_in : Layout → ℕ → ℕ → List ℕ → ℕ
+-- the first refusal that is true of a node's words, none where none is
+unfoldable pub fault_in : Layout → ℕ → ℕ → List ℕ → Out (Unit {0})
 unfolding fits_in below rising children_in words_names_in
 fault_in l table nodes ws =
     first (fits_in l ws) (below nodes (children_in ws) && below table (words_names_in l ws)) (rising (words_names_in l ws))
 
-abbrev pub fault : ℕ → ℕ → List ℕ → ℕ
+abbrev pub fault : ℕ → ℕ → List ℕ → Out (Unit {0})
 fault = fault_in layout.New

@@ -1,5 +1,6 @@
 pub mod Same
 pub mod Order
+pub mod Refusal
 pub mod Out
 pub mod Bytes
 pub mod Decimal

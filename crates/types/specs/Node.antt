@@ -1,6 +1,6 @@
 -- A node is its tag and its children's numbers; its words say both (01, "Words of the arena"). Field words have two layouts (02, A2), which
 -- what reads or makes them takes; under the short names it is today's.
-use Rattle.std.specs.Prelude.{ℕ, ◌+◌, ◌-◌, ◌^◌, ◌≡◌, Bool, true, false, ◌&&◌, List, [], ◌∷◌, ◌++◌, map, length, get_or, take, eqb, ltb}
+use Rattle.std.specs.Prelude.{ℕ, ◌+◌, ◌-◌, ◌^◌, ◌≡◌, Bool, true, false, ◌&&◌, List, [], ◌∷◌, ◌++◌, map, length, get_or, take, eqb, ltb, Ok, Err}
 use Rattle.std.proofs.Math.Bool.{Bool-discrete}
 use Rattle.std.proofs.Math.Option.{Option, none, some}
 use Rattle.std.proofs.Math.Decide.{ℕ_discrete}
@@ -11,7 +11,8 @@ use Rattle.words.specs.declared.Layout.TheVariants as layout
 use Rattle.types.specs.Same.{list_dec, numbers_dec, same_numbers}
 use Rattle.types.specs.Kind as kinds
 use Rattle.types.specs.Kind.{Kind, disc, kind_of, body_count, Body, body_of}
-use Rattle.types.specs.Out.{Out, ok, refuse}
+use Rattle.types.specs.declared.refusal.Refusal.TheVariants as refusal
+use Rattle.types.specs.Out.{Out}
 
 -- the two sides: signs of places, and kinds of member list. A union is the list of the positive side, an intersection that of the negative
 pub data Polarity : Type 0 where
@@ -251,10 +252,10 @@ is_words = is_words_in layout.New
 unfoldable pub decode_in : Layout → ℕ → ℕ → List ℕ → Out Node
 unfolding guess_in is_words_in linked rising
 decode_in l table nodes ws = elim (is_words_in l ws (guess_in l ws)) [
-  | false ↦ refuse 3
+  | false ↦ Err refusal.MalformedNode
   | true ↦ elim (linked table nodes (guess_in l ws)) [
-    | false ↦ refuse 4
-    | true ↦ elim (rising (names (tag (guess_in l ws)))) [ false ↦ refuse 5 | true ↦ ok (guess_in l ws) ]
+    | false ↦ Err refusal.OutOfRange
+    | true ↦ elim (rising (names (tag (guess_in l ws)))) [ false ↦ Err refusal.UnorderedFields | true ↦ Ok (guess_in l ws) ]
   ]
 ]
 

@@ -1,9 +1,10 @@
 -- What is shown of these definitions beyond the contracts. A statement with parameters holds for all of them.
-use Rattle.std.specs.Prelude.{ℕ, suc, ◌/◌, ◌%◌, ◌^◌, ◌≤◌, ◌<◌, ◌≡◌, true, false, List, [], ◌∷◌, ◌++◌, map, length, get_or}
+use Rattle.std.specs.Prelude.{ℕ, suc, ◌/◌, ◌%◌, ◌^◌, ◌≤◌, ◌<◌, ◌≡◌, true, false, List, [], ◌∷◌, ◌++◌, map, length, get_or, Ok, Err}
 use Rattle.std.proofs.Math.Option.{none, some}
 use Rattle.words.specs.declared.Layout.{Layout}
 use Rattle.types.specs.Order.{order, lexicographic, by, then_by, TotalOrder}
-use Rattle.types.specs.Out.{ok, refuse, number}
+use Rattle.types.specs.declared.refusal.Refusal.TheVariants as refusal
+use Rattle.types.specs.Out.{checked}
 use Rattle.types.specs.Decimal.{digit, decimal}
 use Rattle.types.specs.Kind.{Kind, disc, kind_of}
 use Rattle.types.specs.Node.{Polarity, Tag, Node, tag, children, names, encode_in, below, formed_in, linked, rising, guess_in}
@@ -13,7 +14,7 @@ use Rattle.types.specs.Arena.{Arena, at, rec, fold, find, sound, Ext}
 use Rattle.types.specs.Places.{Place}
 use Rattle.types.specs.Memory.{Holds, arena_of}
 use Rattle.types.specs.declared.Counters.{Counters}
-use Rattle.types.specs.declared.Ordering.{Ordering}
+use Rattle.std.specs.declared.cmp.Ordering.{Ordering}
 
 -- ---- orders
 -- numbers by size are a total order
@@ -62,37 +63,37 @@ ChildrenEncode l = (x : Node) → formed_in l x ≡ true → children_in (encode
 
 -- `decode` gives a node that may stand there from its words
 abbrev pub DecodeOk : Layout → Type 0
-DecodeOk l = (table nodes : ℕ) (ws : List ℕ) (x : Node) → IsNodeIn l table nodes ws x → decode_in l table nodes ws ≡ ok x
+DecodeOk l = (table nodes : ℕ) (ws : List ℕ) (x : Node) → IsNodeIn l table nodes ws x → decode_in l table nodes ws ≡ Ok x
 
 -- and it gives no other
 abbrev pub OkDecode : Layout → Type 0
-OkDecode l = (table nodes : ℕ) (ws : List ℕ) (x : Node) → decode_in l table nodes ws ≡ ok x → IsNodeIn l table nodes ws x
+OkDecode l = (table nodes : ℕ) (ws : List ℕ) (x : Node) → decode_in l table nodes ws ≡ Ok x → IsNodeIn l table nodes ws x
 
 -- else it refuses by the first of 3, 4 and 5 that is true (01, "Who can cause which number"): no formed node has these words
 abbrev pub DecodeThree : Layout → Type 0
 DecodeThree l =
-    (table nodes : ℕ) (ws : List ℕ) → ((x : Node) → formed_in l x ≡ true → ws ≡ encode_in l x → ⊥) → decode_in l table nodes ws ≡ refuse 3
+    (table nodes : ℕ) (ws : List ℕ) → ((x : Node) → formed_in l x ≡ true → ws ≡ encode_in l x → ⊥) → decode_in l table nodes ws ≡ Err refusal.MalformedNode
 
 -- one has, but a child or a name isn't there
 abbrev pub DecodeFour : Layout → Type 0
 DecodeFour l =
     (table nodes : ℕ) (ws : List ℕ) (x : Node) → formed_in l x ≡ true → ws ≡ encode_in l x → linked table nodes x ≡ false
-    → decode_in l table nodes ws ≡ refuse 4
+    → decode_in l table nodes ws ≡ Err refusal.OutOfRange
 
 -- all are there, but the names don't rise
 abbrev pub DecodeFive : Layout → Type 0
 DecodeFive l =
     (table nodes : ℕ) (ws : List ℕ) (x : Node) → formed_in l x ≡ true → ws ≡ encode_in l x → linked table nodes x ≡ true
-    → rising (names (tag x)) ≡ false → decode_in l table nodes ws ≡ refuse 5
+    → rising (names (tag x)) ≡ false → decode_in l table nodes ws ≡ Err refusal.UnorderedFields
 
 -- the sentences on number 3, read off field by field, are what `decode` asks, for words of 32 bits
 abbrev pub FitsWords : Layout → Type 0
 FitsWords l = (ws : List ℕ) → below (2 ^ 32) ws ≡ true → is_words_in l ws (guess_in l ws) ≡ fits_in l ws
 
--- so are those on 3, 4 and 5 together: `fault` is `decode`'s number, 0 for none
+-- so are those on 3, 4 and 5 together: `fault` is `decode`'s refusal, none where it gives a node
 abbrev pub FaultDecode : Layout → Type 0
 FaultDecode l =
-    (table nodes : ℕ) (ws : List ℕ) → below (2 ^ 32) ws ≡ true → number (decode_in l table nodes ws) ≡ fault_in l table nodes ws
+    (table nodes : ℕ) (ws : List ℕ) → below (2 ^ 32) ws ≡ true → checked (decode_in l table nodes ws) ≡ fault_in l table nodes ws
 
 -- ---- arenas
 -- in an arena a that grew from b the old numbers have the same nodes

@@ -4,19 +4,15 @@
 
 pub mod arc_ty;
 pub mod attrset;
+pub mod refusal;
 pub mod short_text;
 
+pub use refusal::Refusal;
+pub use std::cmp::Ordering;
+
 // How many nodes an arena has, and how many words they take.
-#[derive(Clone, Copy)]
+#[derive(Clone, Copy, Debug, PartialEq, Eq)]
 pub struct Counters {
     pub nodes: usize,
     pub words: usize,
-}
-
-// How two things stand in an order.
-#[derive(Clone, Copy)]
-pub enum Ordering {
-    Less,
-    Equal,
-    Greater,
 }

@@ -5,7 +5,7 @@ ghost use Rattle.types.specs.Short.{short_text};
 ghost use Rattle.types.specs.Inner.{appended, Room};
 
 // The bytes after `len` are zero.
-#[derive(Clone, Copy)]
+#[derive(Clone, Copy, Debug, PartialEq, Eq)]
 pub struct ShortText {
     pub bytes: [u8; 11],
     pub len: usize,

@@ -2,59 +2,71 @@
 // against what the Rust says of the same cases. A case is a byte that names the call, and its arguments.
 #![tactic(auto)]
 
-mod imports;
-
-use answer_writing::lines::Step;
-use case_reading::host::WORDS;
-use case_reading::input::{BUFFER, past, refill, start, unused};
-use imports::importation;
+use answer_writing::answer::{Answer, Good, stored};
+use answer_writing::memory::put_memory;
+use case_reading::case::{Case, Host};
+use case_reading::input::answer_all;
+use case_reading::memory::Room;
+use import::import_from_arena;
 use std::io;
-use std::io::{BufWriter, Read, Write};
+use std::io::{BufWriter, Write};
 
-// Case after case. Nothing says that input ends, so the cases are counted.
-fn answer_all<R: Read, W: Write>(
-    reader: &mut R,
-    buf: &mut [u8],
-    words: &mut [u32],
-    starts: &mut [u32],
-    target_words: &mut [u32],
-    target_starts: &mut [u32],
+// What `import_from_arena` is given: a host, the root of a type, and the host of the target.
+#[derive(Clone, Copy)]
+struct Import<'a> {
+    source: Host<'a>,
+    root: u32,
+    target: Host<'a>,
+}
+
+// The call that a case has; none where the case isn't there whole, or names another call.
+fn read<'a>(case: &mut Case<'a>) -> Option<Import<'a>> {
+    if case.byte()? != 26 {
+        return None;
+    }
+    Some(Import {
+        source: case.host()?,
+        root: case.word()?,
+        target: case.host()?,
+    })
+}
+
+// What the call answers, and the target's memory as it leaves it.
+fn answer<W: Write>(
+    import: Import<'_>,
+    source: &mut Room,
+    target: &mut Room,
     out: &mut W,
 ) -> io::Result<()> {
-    let mut input = start();
-    for _ in 0..u64::MAX {
-        input = refill(reader, buf, input)?;
-        let step = importation(
-            unused(buf, input),
-            words,
-            starts,
-            target_words,
-            target_starts,
-            out,
-        )?;
-        let Step::Done { used } = step else {
-            break;
-        };
-        input = past(input, used);
-    }
-    out.flush()
+    source.load(import.source.memory)?;
+    target.load(import.target.memory)?;
+    let answer = import_from_arena(
+        import.source.table,
+        &source.words,
+        &source.starts,
+        import.source.memory.counters,
+        import.root,
+        import.target.table,
+        &mut target.words,
+        &mut target.starts,
+        import.target.memory.counters,
+    );
+    write!(out, "{}", Answer(answer.map(stored).map(Good)))?;
+    put_memory(out, &target.words, &target.starts)?;
+    writeln!(out)
 }
 
 // The memory that every case uses in turn.
 fn main(rt: HostRuntime) -> io::Result<()> {
-    let mut buf = vec![in rt.alloc(); 0u8; BUFFER]?;
-    let mut words = vec![in rt.alloc(); 0u32; WORDS]?;
-    let mut starts = vec![in rt.alloc(); 0u32; WORDS]?;
-    let mut target_words = vec![in rt.alloc(); 0u32; WORDS]?;
-    let mut target_starts = vec![in rt.alloc(); 0u32; WORDS]?;
+    let mut source = Room::new(rt.alloc())?;
+    let mut target = Room::new(rt.alloc())?;
     let mut out = BufWriter::new(rt.alloc(), io::writer(&rt))?;
-    answer_all(
-        &mut rt.reader(),
-        &mut buf,
-        &mut words,
-        &mut starts,
-        &mut target_words,
-        &mut target_starts,
-        &mut out,
-    )
+    answer_all(rt.alloc(), &mut rt.reader(), &mut out, |unused, out| {
+        let mut case = Case::new(unused);
+        let Some(import) = read(&mut case) else {
+            return Ok(None);
+        };
+        answer(import, &mut source, &mut target, out)?;
+        Ok(Some(case.left()))
+    })
 }

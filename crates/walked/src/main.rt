@@ -1,63 +1,135 @@
-// `simplify`, `display` and every question, on types that are deep or have a node at very many places, and on document 01's pair of sets.
-// It prints
-// a line a call. What it must print was made by the Rust (compare/reference/src/bin/walked.rs).
+// `simplify`, `display` and every question, on types that are deep or have a node at very many places, and on a pair of
+// sets. It prints a line a call. What it must print was made by the Rust (compare/reference/src/bin/walked.rs).
 #![tactic(auto)]
 
-mod lines;
-
-use deep_types::{Step, put_chain, put_pair};
-use lines::ask_all;
+use answer_writing::answer::{Both, Good, stored, tell, yes};
+use deep_types::{Arena, TABLE, chains};
+use display::display;
+use free_vars::{VarList, free_type_vars};
+use questions::lambdas::has_shared_tyvar_across_lambda_params;
+use questions::named::unwrap_named;
+use questions::vars::{contains_bare_tyvar, has_type_vars, needs_var_normalization};
+use simplify::{Simplified, simplify};
 use std::io;
-use types::arc_ty::Head;
+use std::io::Write;
+use types::Refusal;
+use walks::reach::count_reachable;
 
-fn chain(rt: &impl Print, shape: &str, int: bool, step: Step) -> io::Result<()> {
-    let mut words = [0u32; 16384];
-    let mut starts = [0u32; 4096];
-    let c = put_chain(&mut words, &mut starts, int, step);
-    let mut text = [0u8; 65536];
-    ask_all(rt, shape, &mut words, &mut starts, c, 4095, &mut text)
-}
-
-fn pair(rt: &impl Print, shape: &str, q: u32) -> io::Result<()> {
-    let mut words = [0u32; 16384];
-    let mut starts = [0u32; 4096];
-    let c = put_pair(&mut words, &mut starts, q);
-    let mut text = [0u8; 65536];
-    ask_all(rt, shape, &mut words, &mut starts, c, 5, &mut text)
-}
-
-// Each node is both children of the next, so the variable has 2^4095 places.
-fn shared(rt: &impl Print) -> io::Result<()> {
-    chain(rt, "shared lambdas", false, Step::Both(Head::LAMBDA))?;
-    chain(rt, "shared unions", false, Step::Both(Head::UNION))
-}
-
-// Each node is a child of the next. A lambda's other child is the variable, and int is below such a chain.
-fn deep(rt: &impl Print) -> io::Result<()> {
-    chain(rt, "lists", false, Step::Child(Head::LIST, Head::LIST))?;
-    chain(rt, "lambdas by param", true, Step::Param)?;
-    chain(rt, "lambdas by body", true, Step::Body)?;
-    chain(rt, "unions", false, Step::Child(Head::UNION, Head::UNION))?;
-    chain(
+// The questions that are answered in one word or number.
+fn ask(rt: &impl Print, shape: &str, arena: &Arena, root: u32) -> io::Result<()> {
+    tell(
         rt,
-        "intersections",
-        false,
-        Step::Child(Head::INTERSECTION, Head::INTERSECTION),
+        shape,
+        "has_type_vars",
+        arena.ask(root, has_type_vars).map(yes),
     )?;
-    chain(
+    let answer = arena.ask(root, contains_bare_tyvar).map(yes);
+    tell(rt, shape, "contains_bare_tyvar", answer)?;
+    let answer = arena
+        .ask(root, has_shared_tyvar_across_lambda_params)
+        .map(yes);
+    tell(rt, shape, "has_shared_tyvar_across_lambda_params", answer)?;
+    let answer = arena.ask(root, needs_var_normalization).map(yes);
+    tell(rt, shape, "needs_var_normalization", answer)?;
+    tell(
         rt,
-        "unions and intersections",
-        false,
-        Step::Child(Head::UNION, Head::INTERSECTION),
+        shape,
+        "unwrap_named",
+        arena.ask(root, unwrap_named).map(Good),
     )?;
-    chain(rt, "negs", false, Step::Child(Head::NEG, Head::NEG))?;
-    chain(rt, "names", false, Step::Field(Head::NAMED))?;
-    chain(rt, "sets", false, Step::Field(Head::ATTR_SET))
+    tell(
+        rt,
+        shape,
+        "count_reachable",
+        arena.ask(root, count_reachable).map(Good),
+    )
+}
+
+// How many variables there are, and their indexes.
+fn list(rt: &impl Print, shape: &str, answer: Result<VarList, Refusal>) -> io::Result<()> {
+    let call = "free_type_vars";
+    match answer {
+        Ok(list) => {
+            print!(rt; "{shape}, {call}: ok {}", list.count)?;
+            for var in list.vars.iter().take(list.count) {
+                print!(rt; " {var:x}")?;
+            }
+            println!(rt; "")
+        }
+        Err(refusal) => tell::<u32>(rt, shape, call, Err(refusal)),
+    }
+}
+
+// The length of the text, and how it begins.
+fn print(
+    rt: &impl Print,
+    shape: &str,
+    answer: Result<usize, Refusal>,
+    text: &[u8],
+) -> io::Result<()> {
+    let call = "display";
+    match answer {
+        Ok(length) => {
+            print!(rt; "{shape}, {call}: ok {length} ")?;
+            let front = text.get(..length.min(20)).unwrap_or(&[]);
+            io::writer(rt).write_all(front)?;
+            println!(rt; "")
+        }
+        Err(refusal) => tell::<u32>(rt, shape, call, Err(refusal)),
+    }
+}
+
+// The root after, the passes made and the counters.
+fn told(after: Simplified) -> Good<Both<u32, Both<u32, Both<usize, usize>>>> {
+    Good(Both(after.root, stored((after.passes, after.counters))))
+}
+
+// All calls; the one that changes memory comes last.
+fn ask_all(
+    rt: &impl Print,
+    shape: &str,
+    mut arena: Arena,
+    root: u32,
+    text: &mut [u8],
+) -> io::Result<()> {
+    ask(rt, shape, &arena, root)?;
+    list(rt, shape, arena.ask(root, free_type_vars))?;
+    let answer = display(
+        &TABLE,
+        &arena.words,
+        &arena.starts,
+        arena.counters,
+        root,
+        text,
+    );
+    print(rt, shape, answer, text)?;
+    let answer = simplify(
+        &TABLE,
+        &mut arena.words,
+        &mut arena.starts,
+        arena.counters,
+        root,
+    );
+    tell(rt, shape, "simplify", answer.map(told))
 }
 
 fn main(rt: HostRuntime) -> io::Result<()> {
-    shared(&rt)?;
-    deep(&rt)?;
-    pair(&rt, "one lambda twice", 3)?;
-    pair(&rt, "two lambdas", 4)
+    let mut text = vec![in rt.alloc(); 0u8; 65536]?;
+    for chain in chains() {
+        ask_all(&rt, chain.name, chain.arena(rt.alloc())?, 4095, &mut text)?;
+    }
+    ask_all(
+        &rt,
+        "one lambda twice",
+        Arena::pair(rt.alloc(), 3)?,
+        5,
+        &mut text,
+    )?;
+    ask_all(
+        &rt,
+        "two lambdas",
+        Arena::pair(rt.alloc(), 4)?,
+        5,
+        &mut text,
+    )
 }

@@ -6,7 +6,7 @@ use mathlib.Core.List.{List}
 use mathlib.Core.Logic.{◌⊎◌, inl, inr}
 use native.Mathlib.Decide.{ℕ_discrete}
 use native.Mathlib.Omega.{arith}
-use mir.Syntax.{w32, w64}
+use mir.Syntax.{w32}
 use mir.Val.{Fits}
 use lib.ListN.{get_or, replicate, length-replicate}
 use Rattle.types.specs.Node.{Polarity, positive, negative, tag, children}
@@ -23,7 +23,7 @@ use Rattle.bits.specs.Bits.{has, Put}
 use Rattle.bits.specs.Inner.{Row}
 use Rattle.bits.proofs.Sets.{has_none}
 use Rattle.node_store.specs.Inner.Stored.{InRange}
-use Rattle.walks.specs.Inner.Signs.{side, Signs, Rows, ChildOf, Visits, Marking, SignsIn}
+use Rattle.walks.specs.Inner.Signs.{side, Signs, Rows, ChildOf, Visits, SignsIn}
 
 -- a child has a place below its parent
 child_place : {a : Arena} {n : ℕ} {s t : Polarity} {u : ℕ} → ChildOf a n s t u → Place a n s u t
@@ -46,9 +46,6 @@ module _ {w s : List ℕ} {c : Counters} {root : ℕ} where
 
   pub root_fits : InRange w s c root → Fits w32 root
   root_fits R = omega (arith, root_small R)
-
-  pub root_next : InRange w s c root → Fits w64 (root + 1)
-  root_next R = omega (arith, root_small R)
 
   pub root_row : InRange w s c root → Row (replicate 64 0) root
   root_row R = record { long = length-replicate {A = ℕ} 64 0; inside = root_small R }
@@ -79,13 +76,7 @@ module _ {w s : List ℕ} {c : Counters} {root : ℕ} where
       outside k l negative h = true_false (sym h ∙ has_none 64 k)
 
   module _ {p q : List ℕ} {n : ℕ} (S : Sweep w s c root p q n) where
-    pub sweep_first : 0 < n → Marking w s c (n - 1) p q
-    sweep_first h = record { lent = S.range.lent; inside = omega (arith, S.high, S.range.inside); rows = S.rows }
-
     module _ (h : 0 < n) {p₁ q₁ : List ℕ} (X : Visits w s c (n - 1) positive p q p₁ q₁) where
-      pub sweep_second : Marking w s c (n - 1) p₁ q₁
-      sweep_second = record { lent = S.range.lent; inside = omega (arith, S.high, S.range.inside); rows = X.rows }
-
       -- a child of the node visited has a lower number, so no set changes from that node on
       fixed : {sign : Polarity} {x y x' y' : List ℕ} → Visits w s c (n - 1) sign x y x' y' → (k : ℕ) → n - 1 ≤ k → (t : Polarity) → has (side t x' y') k ≡ true → has (side t x y) k ≡ true
       fixed {sign} {x} {y} W k l t g = go (W.only S.range.lent.table S.range.lent.view S.range.lent.holds t k g)

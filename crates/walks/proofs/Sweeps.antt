@@ -30,9 +30,6 @@ module _ {ws : List ℕ} {flag : Bool} {p q : List ℕ} where
   adding_none R e = record { is = subst (λ (k : ℕ). AddsSome ws flag k p q p q) (no_words ws e) (none_yet R) }
 
 module _ {ws : List ℕ} {flag : Bool} {kind : ℕ} {d p q : List ℕ} where
-  pub adding_start : Rows p q → kind ≡ head_kind (get_or ws 0 0) → ChildWords ws d → Adding ws flag kind d p q p q 0
-  adding_start R e f = record { kinded = e; body = f; turn = omega arith; some = none_yet R }
-
   module _ {p' q' : List ℕ} {i : ℕ} (A : Adding ws flag kind d p q p' q' i) where
     inside : i < length d → i < length (children_in ws)
     inside h = omega (arith, as_many A.body)
@@ -69,6 +66,3 @@ module _ {ws : List ℕ} {flag : Bool} {kind : ℕ} {d p q : List ℕ} where
             go : (has (side t p' q') u ≡ true) ⊎ ((t ≡ sign_of b) × (u ≡ m)) → (has (side t p q) u ≡ true) ⊎ WordChild ws flag (i + 1) t u
             go (inl y) = wider t u (A.some.only t u y)
             go (inr y) = inr (record { index = i; early = omega arith; sign = y.0 ∙ sign; is = y.1 ∙ child_is A.body i g })
-
-    pub adding_done : length d ≤ i → AddsWords ws flag p q p' q'
-    adding_done h = let k : i ≡ length (children_in ws) = omega (arith, A.turn, as_many A.body) in record { is = subst (λ (j : ℕ). AddsSome ws flag j p q p' q') k A.some }

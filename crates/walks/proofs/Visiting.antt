@@ -1,7 +1,7 @@
 -- A node visited at a sign: its words hold its children, and their signs are those of the definition.
 use Prim.Native.Nat.{ℕ, ◌<◌}
 use mathlib.Core.Path.{◌≡◌, sym, ap, ◌∙◌, subst}
-use mathlib.Core.Bool.{Bool, true, false}
+use mathlib.Core.Bool.{Bool, true}
 use mathlib.Core.List.{List}
 use mathlib.Core.Logic.{◌⊎◌, inl, inr}
 use native.Mathlib.Omega.{arith}
@@ -13,14 +13,13 @@ use Rattle.types.specs.Arena.{Arena, at}
 use Rattle.types.specs.Places.{child_sign}
 use Rattle.types.specs.Memory.{Holds}
 use Rattle.types.specs.declared.Counters.{Counters}
-use Rattle.types.proofs.Tests.{true_false}
 use Rattle.types.proofs.Nodes.{encode_kind}
 use Rattle.types.proofs.Faults.{children_encode}
 use Rattle.types.proofs.Sound.{at_formed}
 use Rattle.types.proofs.Addresses.{start_room}
 use Rattle.bits.specs.Bits.{has}
 use Rattle.node_store.specs.Inner.Stored.{NodeAt}
-use Rattle.walks.specs.Inner.Signs.{side, sign_of, turned, flag_after, Rows, WordChild, AddsSome, AddsWords, ChildOf, AddsAll, Visits, Marking}
+use Rattle.walks.specs.Inner.Signs.{side, sign_of, turned, flag_after, WordChild, AddsSome, AddsWords, ChildOf, AddsAll, Marking}
 use Rattle.walks.proofs.Additions.{flag_sign}
 
 -- a child in the words of a formed node is a child of the node
@@ -69,32 +68,3 @@ module _ {w s : List ℕ} {c : Counters} {n : ℕ} where
       back : (table : ℕ) (a : Arena) (H : Holds table w s c a) {t : Polarity} {u : ℕ} → (has (side t p q) u ≡ true) ⊎ WordChild (encode (at a n)) flag (length (children_in (encode (at a n)))) t u → (has (side t p q) u ≡ true) ⊎ ChildOf a n (sign_of flag) t u
       back table a H (inl x) = inl x
       back table a H (inr W) = inr (from_words a n (formed_at H M.inside) flag W)
-
-  -- ---- visited or not
-  module _ {p q : List ℕ} {sign : Polarity} {b : Bool} (e : b ≡ has (side sign p q) n) where
-    pub visited : {p' q' : List ℕ} → b ≡ true → AddsAll w s c n sign p q p' q' → Visits w s c n sign p q p' q'
-    visited {p'} {q'} f A = record {
-      rows = A.rows;
-      kept = A.kept;
-      new = λ table a H h. A.new table a H;
-      only = λ table a H t u h. told (A.only table a H t u h);
-    }
-      where
-        told : {t : Polarity} {u : ℕ} {a : Arena} → (has (side t p q) u ≡ true) ⊎ ChildOf a n sign t u → (has (side t p q) u ≡ true) ⊎ ((has (side sign p q) n ≡ true) × ChildOf a n sign t u)
-        told (inl x) = inl x
-        told (inr C) = inr (sym e ∙ f, C)
-
-    pub passed_by : b ≡ false → Rows p q → Visits w s c n sign p q p q
-    passed_by f R = record {
-      rows = R;
-      kept = λ t u h. h;
-      new = λ table a H h. absurd (true_false (sym h ∙ sym e ∙ f));
-      only = λ table a H t u h. inl h;
-    }
-
--- ---- the set of a sign
-pub in_positive : (p q : List ℕ) (n : ℕ) {b r : Bool} → b ≡ true → r ≡ has p n → r ≡ has (side (sign_of b) p q) n
-in_positive p q n e f = rw e f
-
-pub in_negative : (p q : List ℕ) (n : ℕ) {b r : Bool} → b ≡ false → r ≡ has q n → r ≡ has (side (sign_of b) p q) n
-in_negative p q n e f = rw e f

@@ -3,14 +3,14 @@ ghost use Rattle.std.specs.Prelude.{◌≡◌};
 ghost use Rattle.node_store.specs.Inner.Stored.{Lent, InRange};
 ghost use Rattle.walks.specs.Asked.{ask_reply};
 ghost use Rattle.walks.specs.Inner.Asked.{Answers};
-ghost use Rattle.walks.specs.Reach.{reach_count, counted_out};
+ghost use Rattle.walks.specs.Reach.{reach_count};
 ghost use Rattle.walks.specs.Inner.Sets.{ReachIn};
 
 use crate::signs::signs_of;
 use bits::{count, union};
-use soundness::{Judged, judge};
-use types::Counters;
+use soundness::judge;
 use types::arc_ty::wide;
+use types::{Counters, Refusal};
 
 // The reachable nodes, a bit for each: those with a place of either sign.
 pub fn reachable(words: &[u32], starts: &[u32], c: Counters, root: usize) -> [u64; 64]
@@ -23,23 +23,16 @@ pub fn reachable(words: &[u32], starts: &[u32], c: Counters, root: usize) -> [u6
     union(&positive, &negative)
 }
 
-// How many there are, or the number of a refusal.
-#[derive(Clone, Copy)]
-pub enum Counted {
-    Nodes(u32),
-    Refused(u32),
-}
-
 // How many nodes are reachable from the root, in an arena that is known to be sound.
-fn count_in(words: &[u32], starts: &[u32], c: Counters, root: usize) -> Counted
+fn count_in(words: &[u32], starts: &[u32], c: Counters, root: usize) -> Result<u32, Refusal>
     requires { Lent words.now starts.now c }
-    ensures { Answers reach_count words.now starts.now c root (counted_out result) }
+    ensures { Answers reach_count words.now starts.now c root result }
 {
     if root >= c.nodes {
-        return Counted::Refused(6);
+        return Err(Refusal::NoSuchRoot);
     }
     let met = reachable(words, starts, c, root);
-    Counted::Nodes(count(&met))
+    Ok(count(&met))
 }
 
 // How many nodes are reachable from the root.
@@ -49,12 +42,9 @@ pub fn count_reachable(
     starts: &[u32],
     c: Counters,
     root: u32,
-) -> Counted
-    ensures { counted_out result ≡ ask_reply reach_count table.now words.now starts.now c root }
+) -> Result<u32, Refusal>
+    ensures { result ≡ ask_reply reach_count table.now words.now starts.now c root }
 {
-    let lent = judge(table, words, starts, c);
-    match lent {
-        Judged::Names(count) => count_in(words, starts, c, wide(root)),
-        Judged::Refused(number) => Counted::Refused(number),
-    }
+    judge(table, words, starts, c)?;
+    count_in(words, starts, c, wide(root))
 }

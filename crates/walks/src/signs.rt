@@ -47,17 +47,14 @@ fn add_all(node: &[u32], sign: bool, positive: &mut [u64; 64], negative: &mut [u
     ensures { AddsWords node.now sign positive.old negative.old positive.new
         negative.new }
 {
-    if node.len() == 0 {
+    if node.is_empty() {
         return;
     }
     let head = Head { word: node[0] };
     let kind = head.kind();
-    let body = child_words(node);
-    let mut i = 0;
-    while i < body.len() {
+    for (i, word) in child_words(node).iter().enumerate() {
         let next = sign_after(sign, turns(kind, i));
-        add(positive, negative, next, child(body[i]));
-        i += 1;
+        add(positive, negative, next, child(*word));
     }
 }
 
@@ -124,9 +121,7 @@ pub fn signs_of(words: &[u32], starts: &[u32], c: Counters, root: usize) -> Sign
     let mut positive = [0u64; 64];
     let mut negative = [0u64; 64];
     put(&mut positive, root as u32);
-    let mut n = root + 1;
-    while n > 0 {
-        n -= 1;
+    for n in (0..root + 1).rev() {
         visit(words, starts, c, n, true, &mut positive, &mut negative);
         visit(words, starts, c, n, false, &mut positive, &mut negative);
     }

@@ -16,7 +16,7 @@ const ZERO: u32 = 0x0001_0000;
 pub(crate) const CHILDREN: u32 = 0x1000;
 
 // The head of a node.
-#[derive(Clone, Copy)]
+#[derive(Clone, Copy, Debug, PartialEq, Eq)]
 pub struct Head {
     pub word: u32,
 }
@@ -92,7 +92,7 @@ impl Head {
 pub(crate) fn flag(b: bool) -> u32
     ensures { IsBit b result }
 {
-    if b { 1 } else { 0 }
+    u32::from(b)
 }
 
 // A word as a count or a place.

@@ -6,7 +6,7 @@ pub mod arc_ty;
 pub mod attrset;
 
 // The two layouts of a field word, of the table's limits and so of a sheet. All but a sheet that is to be converted is `New`.
-#[derive(Clone, Copy)]
+#[derive(Clone, Copy, Debug, PartialEq, Eq)]
 pub enum Layout {
     Old,
     New,

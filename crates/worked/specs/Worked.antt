@@ -1,11 +1,11 @@
 -- The worked types of document 01 that are to be proved (those with a star), words for each of its sentences on a node, and names with
 -- their spellings (02, A1).
-use Rattle.std.specs.Prelude.{ℕ, Bool, true, false, List, [], ◌∷◌, replicate}
+use Rattle.std.specs.Prelude.{ℕ, Bool, true, false, List, [], ◌∷◌, replicate, Ok}
 use Prim.Native.String.{String}
 use Rattle.std.proofs.Math.Option.{Option, none, some}
 use Rattle.words.specs.Words.{bit}
 use Rattle.types.specs.Bytes.{bytes}
-use Rattle.types.specs.Out.{Out, ok, number}
+use Rattle.types.specs.Out.{Out, number}
 use Rattle.types.specs.Tyvar.{tyvar_name}
 use Rattle.types.specs.Node.{positive, field, primitive, lambda, attrset, members, var, form, Node, node, decode}
 use Rattle.types.specs.Fault.{fault}
@@ -33,7 +33,7 @@ worked = prints 25 "z" ∷ prints 26 "a1" ∷ prints 4294967294 "u165191049" ∷
 
 -- words that are to be a node after three others, under a table of two names; `decode` and the sentences agree on the number, 0 for none
 abbrev judges : List ℕ → ℕ → Case
-judges ws n = record { gives = number (decode 2 3 ws) ∷ fault 2 3 ws ∷ []; says = n ∷ n ∷ [] }
+judges ws n = record { gives = number (decode 2 3 ws) ∷ number (fault 2 3 ws) ∷ []; says = n ∷ n ∷ [] }
 
 -- what 01 says of a node's words ("Words of the arena"; a field word: 02, A2), a sentence at a time
 abbrev pub judged : List Case
@@ -134,7 +134,7 @@ nested =
 
 -- it becomes the union of null, bool and int, in this order, which is added as node 5 (01, "Worked types")
 abbrev pub normalized : List Normalized
-normalized = record { gives = normalize_set_ops 16384 4096 4 nested; says = ok (5, node (members positive) (1 ∷ 2 ∷ 0 ∷ []) ∷ nested) } ∷ []
+normalized = record { gives = normalize_set_ops 16384 4096 4 nested; says = Ok (5, node (members positive) (1 ∷ 2 ∷ 0 ∷ []) ∷ nested) } ∷ []
 
 -- the empty sets among the types that are printed, and one for each rule of printing
 abbrev pub printed : List display.Case

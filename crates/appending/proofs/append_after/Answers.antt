@@ -5,5 +5,5 @@ use Rattle.appending.proofs.append_after.Goals as goal
 pub returns-then-i-eq0 : goal.returns-then-i-eq0
 returns-then-i-eq0 c = search writes_first
 
-pub returns : goal.returns
-returns c = search writes_later
+pub returns-else-i-eq0 : goal.returns-else-i-eq0
+returns-else-i-eq0 c = search writes_later

@@ -5,5 +5,5 @@ use Rattle.appending.proofs.append_if.Goals as goal
 pub returns-then-so : goal.returns-then-so
 returns-then-so c = search writes_when
 
-pub returns : goal.returns
-returns c = search writes_unless
+pub returns-else-so : goal.returns-else-so
+returns-else-so c = search writes_unless

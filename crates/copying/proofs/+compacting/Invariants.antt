@@ -1,5 +1,5 @@
 -- The cycle: the measure is three times the node's number, and then which part.
-use Prim.Native.Nat.{◌+◌, ◌-◌, ◌*◌}
+use Prim.Native.Nat.{◌+◌, ◌*◌}
 use Rattle.recursion.proofs.Turns.{Turn}
 use Rattle.copying.specs.Copy.{copy}
 use Rattle.copying.specs.Inner.{Source, AllCached}
@@ -16,6 +16,3 @@ decreases-compact_inner_uncached l = 3 * l.n + 1
 
 abbrev pub invariant-compact_each-loop-i : goal.invariant-compact_each-loop-i
 invariant-compact_each-loop-i l = Turn copy (Source l.words l.starts l.c) l.initial.target_words l.initial.target_starts l.initial.last l.n l.initial.items l.count l.initial.cache l.target_words l.target_starts l.items l.cache l.last l.i × AllCached l.words l.starts l.c l.target_words l.target_starts l.last l.cache
-
-abbrev pub decreases-compact_each-loop-i : goal.decreases-compact_each-loop-i
-decreases-compact_each-loop-i l = l.count - l.i

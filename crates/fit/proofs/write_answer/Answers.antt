@@ -2,11 +2,11 @@
 use Rattle.fit.proofs.Answering.{refusal_line, yes_line, no_line}
 use Rattle.fit.proofs.write_answer.Goals as goal
 
-pub returns-in-Refused : goal.returns-in-Refused
-returns-in-Refused c = search refusal_line
+pub returns-in-Err : goal.returns-in-Err
+returns-in-Err c = search refusal_line
 
-pub returns-then-yes : goal.returns-then-yes
-returns-then-yes c = search yes_line
+pub returns-in-Ok-true : goal.returns-in-Ok-true
+returns-in-Ok-true c = search yes_line
 
-pub returns-else-yes : goal.returns-else-yes
-returns-else-yes c = search no_line
+pub returns-in-Ok-false : goal.returns-in-Ok-false
+returns-in-Ok-false c = search no_line

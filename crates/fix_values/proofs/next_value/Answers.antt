@@ -1,5 +1,5 @@
 -- A value that is cut short is none.
-use Rattle.fix_values.proofs.Checking.{count_next, next_cut, next_bad, next_good}
+use Rattle.fix_values.proofs.Checking.{count_next, next_cut, next_good}
 use Rattle.fix_values.proofs.next_value.Goals as goal
 
 pub overflow_add-len : goal.overflow_add-len
@@ -7,9 +7,6 @@ overflow_add-len c = search count_next
 
 pub returns-then-fix-at : goal.returns-then-fix-at
 returns-then-fix-at c = search next_cut
-
-pub returns-then-not-value_good : goal.returns-then-not-value_good
-returns-then-not-value_good c = search next_bad
 
 pub returns : goal.returns
 returns c = search next_good

@@ -1,5 +1,4 @@
-use Rattle.free_vars.proofs.Collections.{collect_small, collected, collect_range, collect_head, var_room, var_collected, turn_start, turn_row, turn_falls, turn_collecting, turn_more, turn_done}
-use borrow.Author.Rules.{rules}
+use Rattle.free_vars.proofs.Collections.{collect_small, collected, collect_head, var_room, var_collected, turn_start, turn_row, turn_falls, turn_collecting, turn_more, turn_done}
 use borrow.Author.Rules.{rules}
 use Rattle.free_vars.proofs.+collect.Goals as goal
 
@@ -8,9 +7,6 @@ test-requires t c = search collect_small
 
 pub returns-then-test : goal.returns-then-test
 returns-then-test t c = search collected
-
-pub node_at-node-requires : goal.node_at-node-requires
-node_at-node-requires t c = search collect_range
 
 pub bounds-node-0 : goal.bounds-node-0
 bounds-node-0 t c = search collect_head
@@ -27,14 +23,14 @@ add_var-requires t c = search var_room
 pub returns-then-kind-eq-TY_VAR : goal.returns-then-kind-eq-TY_VAR
 returns-then-kind-eq-TY_VAR t c = search var_collected
 
-pub loop-i-init : goal.loop-i-init
-loop-i-init t c = search turn_start
+pub loop-word-init : goal.loop-word-init
+loop-word-init t c = search turn_start
 
 pub collect-total-requires : goal.collect-total-requires
 collect-total-requires t c = (search turn_falls, search turn_collecting)
 
-pub loop-i-preserved : goal.loop-i-preserved
-loop-i-preserved t c = turn_more c.collect-total.ensures c.child.ensures (search rules) (search rules)
+pub loop-word-preserved : goal.loop-word-preserved
+loop-word-preserved t c = turn_more c.collect-total.ensures c.child.ensures (search rules) (search rules)
 
 pub put-requires : goal.put-requires
 put-requires t c = search turn_row

@@ -1,12 +1,12 @@
 -- What the functions of the recursion ask and answer, besides what all recursions do.
 use Rattle.std.specs.Prelude.{ℕ, ◌<◌, ◌≡◌, true, false, List, length, get_or, take}
+use Rattle.types.specs.Out.{Out}
 use Rattle.types.specs.Node.{node, tag, children, below}
 use Rattle.types.specs.Arena.{Arena, at}
 use Rattle.types.specs.Memory.{Holds}
 use Rattle.types.specs.Reply.{reply_of}
 use Rattle.types.specs.declared.Counters.{Counters}
 use Rattle.node_store.specs.Intern.{intern, left}
-use Rattle.node_store.specs.declared.added.Interned.{Interned}
 use Rattle.importing.specs.Import.{renamed, lacks}
 use Rattle.importing.specs.Inner.Names.{by_map, Numbering}
 
@@ -40,7 +40,7 @@ pub record ImportReady (ks w s : List ℕ) (c : Counters) (n : ℕ) (items : Lis
 
 -- the answer, and the target's memory after, are those of interning the source's node with these children, its names renamed
 pub record Imports (ks w s : List ℕ) (c : Counters) (n : ℕ) (items : List ℕ) (count : ℕ) (tw ts : List ℕ) (d : Counters) (tw' ts' : List ℕ)
-    (r : Interned) : Type 0 where
+    (r : Out (ℕ × Counters)) : Type 0 where
   pub is : (table : ℕ) (u a : Arena) → Foreign ks w s c table u a → Holds table tw ts d a
       → left d r tw' ts'
       ≡ reply_of tw ts d (intern (length tw) (length ts) (node (renamed (by_map ks) (tag (at u n))) (take count items)) a)

@@ -1,8 +1,9 @@
 -- A member list as it grows and as it is closed (01, "simplify" and "Forms of the Rust that can't be kept"): what the functions ask and
 -- answer. `number` is that of the kind of list.
-use Rattle.std.specs.Prelude.{ℕ, ◌+◌, ◌≤◌, ◌<◌, ◌≡◌, true, false, ◌||◌, length, take, eqb}
+use Rattle.std.specs.Prelude as std
+use Rattle.std.specs.Prelude.{ℕ, ◌+◌, ◌≤◌, ◌<◌, ◌≡◌, true, false, ◌||◌, length, take, eqb, Ok, Err, Some, None}
 use mathlib.Core.List.{List, ◌∷◌, flat_map, Memᴰ as Mem}
-use Rattle.types.specs.Out.{Out, ok, refuse, ◌>>=◌}
+use Rattle.types.specs.Out.{Out, ◌>>=◌}
 use Rattle.types.specs.Kind.{disc}
 use Rattle.types.specs.Node.{Polarity, members, bound, node, tag, kind, below}
 use Rattle.types.specs.Arena.{Arena, at}
@@ -12,16 +13,10 @@ use Rattle.types.specs.Reply.{reply_of}
 use Rattle.types.specs.declared.Counters.{Counters}
 use Rattle.node_store.specs.Inner.Stored.{Lent, InRange}
 use Rattle.node_store.specs.Intern.{intern, left}
-use Rattle.node_store.specs.declared.added.Interned.{Interned}
 use Rattle.bits.specs.Bits.{has, count_below}
 use Rattle.recursion.specs.Jobs.{Job}
 use Rattle.simplification.specs.Pass.{one_of, is_decided, splice, first_copies, member_list, close}
 use Rattle.member_lists.specs.Inner.Closed.{ClosesTo}
-use Rattle.member_lists.specs.declared.Closed.{Closed}
-use Rattle.member_lists.specs.declared.Decision.{Decision}
-use Rattle.member_lists.specs.declared.Decision.TheVariants as decision
-use Rattle.member_lists.specs.declared.growing.Grown.{Grown}
-use Rattle.member_lists.specs.declared.growing.Grown.TheVariants as grown
 
 -- ---- the bounds of a kind of list
 -- r is the kind of its neutral element
@@ -55,16 +50,16 @@ pub record Adding (items : List ℕ) (count : ℕ) (met : List ℕ) (n : ℕ) : 
   pub growing : Growing items count met
   pub inside : n < 4096
 
--- the enum's cases: the list is as long as it says; a 65th member is refused by 8
-abbrev pub grown_out : List ℕ → Grown → Out (List ℕ)
-grown_out items (grown.Count n) = ok (take n items)
-grown_out items grown.Full = refuse 8
+-- the list is as long as the answer says
+abbrev pub grown_out : List ℕ → Out ℕ → Out (List ℕ)
+grown_out items (Ok n) = Ok (take n items)
+grown_out items (Err e) = Err e
 
 -- the list after what is new was appended to it, each number unless it was there; the bits set are then those that were and those of all
 -- that is new, whether it was appended or was there
-pub record Grows (items : List ℕ) (count : ℕ) (met new items' met' : List ℕ) (r : Grown) : Type 0 where
-  pub growing : (n : ℕ) → r ≡ grown.Count n → Growing items' n met'
-  pub bits : (n : ℕ) → r ≡ grown.Count n → (m : ℕ) → has met' m ≡ (has met m || one_of (eqb m) new)
+pub record Grows (items : List ℕ) (count : ℕ) (met new items' met' : List ℕ) (r : Out ℕ) : Type 0 where
+  pub growing : (n : ℕ) → r ≡ Ok n → Growing items' n met'
+  pub bits : (n : ℕ) → r ≡ Ok n → (m : ℕ) → has met' m ≡ (has met m || one_of (eqb m) new)
   pub is : grown_out items' r ≡ first_copies (take count items) new
 
 -- memory holds an arena with a node n, which is to go to the list
@@ -86,16 +81,16 @@ pub record Flattening (w s : List ℕ) (c : Counters) (number : ℕ) (ms items m
 
 -- what the members bring was appended
 pub record Flattens (w s : List ℕ) (c : Counters) (number : ℕ) (ms items : List ℕ) (count : ℕ) (met items' met' : List ℕ)
-    (r : Grown) : Type 0 where
+    (r : Out ℕ) : Type 0 where
   pub is : (table : ℕ) (a : Arena) (k : Polarity) → Holds table w s c a → number ≡ disc (kind (members k))
       → Grows items count met (flat_map (λ (m : ℕ). splice k m (at a m)) ms) items' met' r
 
 -- ---- a list that is closed
 -- r is a member that decides the list, or says that there is none
-pub record Decides (w s : List ℕ) (c : Counters) (number : ℕ) (ms : List ℕ) (r : Decision) : Type 0 where
-  pub by : (n : ℕ) → r ≡ decision.By n → (table : ℕ) (a : Arena) (k : Polarity) → Holds table w s c a → number ≡ disc (kind (members k))
+pub record Decides (w s : List ℕ) (c : Counters) (number : ℕ) (ms : List ℕ) (r : std.Option ℕ) : Type 0 where
+  pub by : (n : ℕ) → r ≡ Some n → (table : ℕ) (a : Arena) (k : Polarity) → Holds table w s c a → number ≡ disc (kind (members k))
       → Mem n ms × (tag (at a n) ≡ bound (opposite k))
-  pub not : r ≡ decision.Open → (table : ℕ) (a : Arena) (k : Polarity) → Holds table w s c a → number ≡ disc (kind (members k))
+  pub not : r ≡ None → (table : ℕ) (a : Arena) (k : Polarity) → Holds table w s c a → number ≡ disc (kind (members k))
       → is_decided k a ms ≡ false
 
 -- r begins with the words of a node: its head, then the list
@@ -115,16 +110,16 @@ pub record Filled (w s : List ℕ) (c : Counters) (number : ℕ) (items : List �
 
 -- the answer, and memory after, are those of interning the list
 pub record InternsList (w s : List ℕ) (c : Counters) (number : ℕ) (items : List ℕ) (count : ℕ) (w' s' : List ℕ)
-    (r : Interned) : Type 0 where
+    (r : Out (ℕ × Counters)) : Type 0 where
   pub is : (table : ℕ) (a : Arena) (k : Polarity) → Holds table w s c a → number ≡ disc (kind (members k))
       → left c r w' s' ≡ reply_of w s c (intern (length w) (length s) (node (members k) (take count items)) a)
 
 -- the answer, and memory after, are those of what stands for the list
-pub record Finishes (w s : List ℕ) (c : Counters) (number : ℕ) (items : List ℕ) (count : ℕ) (w' s' : List ℕ) (r : Closed) : Type 0 where
+pub record Finishes (w s : List ℕ) (c : Counters) (number : ℕ) (items : List ℕ) (count : ℕ) (w' s' : List ℕ) (r : std.Option (Out (ℕ × Counters))) : Type 0 where
   pub is : (table : ℕ) (a : Arena) (k : Polarity) (first : Job) → Holds table w s c a → number ≡ disc (kind (members k))
       → ClosesTo w s c w' s' r (close (length w) (length s) k first (take count items) a) (first a)
 
 -- the answer, and memory after, are those of what stands for the list that the members make
-pub record ClosesOpen (w s : List ℕ) (c : Counters) (number : ℕ) (ms w' s' : List ℕ) (r : Closed) : Type 0 where
+pub record ClosesOpen (w s : List ℕ) (c : Counters) (number : ℕ) (ms w' s' : List ℕ) (r : std.Option (Out (ℕ × Counters))) : Type 0 where
   pub is : (table : ℕ) (a : Arena) (k : Polarity) (first : Job) → Holds table w s c a → number ≡ disc (kind (members k))
       → ClosesTo w s c w' s' r (member_list k a ms >>= λ (l : List ℕ). close (length w) (length s) k first l a) (first a)

@@ -1,11 +1,5 @@
-use Rattle.member_sorting.proofs.Placing.{passed_start, passed_range, passed_next, passed_found, passed_more, passed_done}
+use Rattle.member_sorting.proofs.Placing.{passed_next, passed_found, passed_more, passed_done}
 use Rattle.member_sorting.proofs.place_of.Goals as goal
-
-pub loop-i-init : goal.loop-i-init
-loop-i-init c = search passed_start
-
-pub comes_before-requires-clause-in_range : goal.comes_before-requires-clause-in_range
-comes_before-requires-clause-in_range c = search passed_range
 
 pub comes_before-requires-clause-in_range_2 : goal.comes_before-requires-clause-in_range_2
 comes_before-requires-clause-in_range_2 c = search passed_next

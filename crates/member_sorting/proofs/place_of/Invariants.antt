@@ -1,11 +1,6 @@
 -- The invariant: m comes before none of the first i members.
-use Prim.Native.Nat.{◌-◌}
-use lib.ListN.{length}
 use Rattle.member_sorting.proofs.Placing.{Passed}
 use Rattle.member_sorting.proofs.place_of.Given as goal
 
 abbrev pub invariant-loop-i : goal.invariant-loop-i
 invariant-loop-i l = Passed l.words l.starts l.c l.m l.members l.i
-
-abbrev pub decreases-loop-i : goal.decreases-loop-i
-decreases-loop-i l = length l.members - l.i

@@ -4,11 +4,11 @@ use Rattle.name_matching.proofs.match_names.Goals as goal
 pub loop-r-init : goal.loop-r-init
 loop-r-init c = search read_start
 
-pub returns-then-r-right : goal.returns-then-r-right
-returns-then-r-right c = search right_passed
+pub returns-else-r-right : goal.returns-else-r-right
+returns-else-r-right c = search right_passed
 
 pub step-r-requires : goal.step-r-requires
 step-r-requires c = search read_next
 
-pub returns : goal.returns
-returns c = search left_passed
+pub returns-after-loop-r : goal.returns-after-loop-r
+returns-after-loop-r c = search left_passed

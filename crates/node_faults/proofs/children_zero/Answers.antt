@@ -1,14 +1,13 @@
-use Rattle.node_faults.proofs.Passing.{passed_start, zero_more, zero_fails, zero_done}
+-- `children_zero` tests each word.
+use Rattle.std.proofs.Common.{rules}
+use Rattle.std.proofs.lemmas.Iterator.{YieldsList-from_slice}
+use Rattle.std.proofs.lemmas.Iterator.Search.{all_from_yields_List}
+use borrow.Author.Tests.{tests}
+use lib.Dec.{eqb}
+use mathlib.Core.Path.{◌∙◌}
+use Rattle.words.specs.Words.{child_zero}
+use Rattle.node_faults.proofs.Passing.{all_zero}
 use Rattle.node_faults.proofs.children_zero.Goals as goal
 
-pub loop-i-init : goal.loop-i-init
-loop-i-init c = search passed_start
-
-pub returns-then-child_zero-ne0 : goal.returns-then-child_zero-ne0
-returns-then-child_zero-ne0 c = search zero_fails
-
-pub loop-i-preserved : goal.loop-i-preserved
-loop-i-preserved c = search zero_more
-
 pub returns : goal.returns
-returns c = search zero_done
+returns c = all_from_yields_List (λ w. eqb (child_zero w) 0) _ _ _ c.all.ensures.ran (YieldsList-from_slice c.args.words.now cc) (λ x b q k. search (rules, tests)) ∙ all_zero child_zero c.args.words.now

@@ -1,14 +1,11 @@
-use Rattle.node_faults.proofs.Rising.{risen_start, risen_more, risen_fails, risen_done}
+-- `names_rise` compares each name with the one before.
+use Rattle.std.proofs.Common.{rules}
+use Rattle.std.proofs.lemmas.List.Sorted.{answers_always}
+use borrow.Author.Tests.{tests}
+use lib.Dec.{ltb}
+use Rattle.words.specs.Words.{field_name}
+use Rattle.node_faults.proofs.Rising.{rising_sorted}
 use Rattle.node_faults.proofs.names_rise.Goals as goal
 
-pub loop-i-init : goal.loop-i-init
-loop-i-init c = search risen_start
-
-pub returns-then-field_name : goal.returns-then-field_name
-returns-then-field_name c = search risen_fails
-
-pub loop-i-preserved : goal.loop-i-preserved
-loop-i-preserved c = search risen_more
-
 pub returns : goal.returns
-returns c = search risen_done
+returns c = rising_sorted field_name c.args.words.now c.is_sorted_by.result (c.is_sorted_by.ensures.cases (λ x y. ltb (field_name x) (field_name y)) (answers_always _ _ _ (λ f a r g k. search (rules, tests))))

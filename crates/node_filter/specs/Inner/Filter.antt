@@ -1,12 +1,11 @@
 -- A filter over the nodes of an arena, and what the functions on it ask and answer.
-use Rattle.std.specs.Prelude.{ℕ, ◌<◌, ◌≡◌, Bool, true, List, length}
+use Rattle.std.specs.Prelude.{ℕ, ◌<◌, ◌≡◌, Bool, true, List, length, Result, Ok}
 use Rattle.bits.specs.Bits.{has}
 use Rattle.types.specs.Node.{encode}
 use Rattle.types.specs.Arena.{Arena, at}
 use Rattle.types.specs.Memory.{Holds}
+use Rattle.types.specs.declared.refusal.Refusal.{Refusal}
 use Rattle.types.specs.declared.Counters.{Counters}
-use Rattle.node_store.specs.declared.added.Interned.{Interned}
-use Rattle.node_store.specs.declared.added.Interned.TheVariants as interned
 use Rattle.node_filter.specs.Inner.Hash.{hash_of, bit_of}
 
 -- the three bits of a hash are set
@@ -36,5 +35,5 @@ pub record CoversLent (w s : List ℕ) (c : Counters) (filter : List ℕ) : Type
   pub is : (table : ℕ) (a : Arena) → Holds table w s c a → Covers filter a
 
 -- the same with the counters of an answer, unless that is a refusal
-pub record CoversAfter (w s : List ℕ) (r : Interned) (filter : List ℕ) : Type 0 where
-  pub is : (n : ℕ) (d : Counters) → r ≡ interned.Node n d → CoversLent w s d filter
+pub record CoversAfter (w s : List ℕ) (r : Result (ℕ × Counters) Refusal) (filter : List ℕ) : Type 0 where
+  pub is : (n : ℕ) (d : Counters) → r ≡ Ok (n, d) → CoversLent w s d filter

@@ -7,14 +7,14 @@ loop-i-init c = search facing_start
 pub returns-then-j-f : goal.returns-then-j-f
 returns-then-j-f c = search facing_longer
 
-pub returns-in_default : goal.returns-in_default
-returns-in_default c = search facing_told
-
-pub loop-i-preserved : goal.loop-i-preserved
-loop-i-preserved c = search facing_more
-
 pub returns-then-j-f-2 : goal.returns-then-j-f-2
 returns-then-j-f-2 c = search facing_shorter
 
-pub returns : goal.returns
-returns c = search facing_done
+pub returns-else-j-f-2 : goal.returns-else-j-f-2
+returns-else-j-f-2 c = search facing_done
+
+pub returns-then-is_ne : goal.returns-then-is_ne
+returns-then-is_ne c = search facing_told
+
+pub loop-i-preserved : goal.loop-i-preserved
+loop-i-preserved c = search facing_more

@@ -1,16 +1,15 @@
 -- What the functions that read stored nodes ask and answer. `table` is the number of names under which memory holds its arena.
 use Rattle.std.specs.Prelude.{ℕ, ◌+◌, ◌<◌, ◌≡◌, Bool, true, List, length, get_or}
-use Rattle.std.proofs.Math.Option.{Option, none, some}
+use Rattle.std.specs.Prelude as std
+use Rattle.types.specs.Out.{option_of}
 use Rattle.types.specs.Same.{same}
 use Rattle.types.specs.Node.{Node, node_dec, encode, formed}
 use Rattle.types.specs.Arena.{Arena, at, find}
 use Rattle.types.specs.Fault.{children_in}
 use Rattle.types.specs.Memory.{Holds}
 use Rattle.types.specs.declared.Counters.{Counters}
-use Rattle.types.specs.declared.Ordering.{Ordering}
+use Rattle.std.specs.declared.cmp.Ordering.{Ordering}
 use Rattle.node_order.specs.NodeOrder.{node_order}
-use Rattle.node_store.specs.declared.stored.Found.{Found}
-use Rattle.node_store.specs.declared.stored.Found.TheVariants as found
 
 -- memory that holds some arena
 pub record Lent (w s : List ℕ) (c : Counters) : Type 0 where
@@ -56,14 +55,9 @@ pub record Searched (w s : List ℕ) (c : Counters) (ws : List ℕ) : Type 0 whe
   pub lent : Lent w s c
   pub headed : 0 < length ws
 
--- the enum's cases: the number of a node, or none
-abbrev pub found_at : Found → Option ℕ
-found_at (found.At n) = some n
-found_at found.Nothing = none
-
 -- what is found is the definition's
-pub record FoundIn (w s : List ℕ) (c : Counters) (ws : List ℕ) (r : Found) : Type 0 where
-  pub is : (table : ℕ) (a : Arena) (x : Node) → Holds table w s c a → formed x ≡ true → ws ≡ encode x → found_at r ≡ find x a
+pub record FoundIn (w s : List ℕ) (c : Counters) (ws : List ℕ) (r : std.Option ℕ) : Type 0 where
+  pub is : (table : ℕ) (a : Arena) (x : Node) → Holds table w s c a → formed x ≡ true → ws ≡ encode x → option_of r ≡ find x a
 
 -- r is how two nodes stand
 pub record Ordered (w s : List ℕ) (c : Counters) (m n : ℕ) (r : Ordering) : Type 0 where

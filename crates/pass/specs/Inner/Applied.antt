@@ -1,26 +1,23 @@
 -- What the functions of the recursion ask and answer.
-use Rattle.std.specs.Prelude.{ℕ, ◌<◌, ◌≤◌, ◌≡◌, Bool, true, List, length, get_or, take}
-use Rattle.types.specs.Out.{Out, ok, refuse}
+use Rattle.std.specs.Prelude.{ℕ, ◌<◌, ◌≤◌, ◌≡◌, Bool, true, List, length, get_or, take, Ok, Err}
+use Rattle.types.specs.declared.refusal.Refusal.{Refusal}
+use Rattle.types.specs.Out.{Out}
 use Rattle.types.specs.Node.{Polarity, members, tag, children, below}
 use Rattle.types.specs.Arena.{Arena, at, Ext}
 use Rattle.types.specs.Memory.{Holds}
 use Rattle.types.specs.declared.Counters.{Counters}
 use Rattle.node_store.specs.Inner.Stored.{Lent}
-use Rattle.node_store.specs.declared.added.Interned.{Interned}
-use Rattle.node_store.specs.declared.added.Interned.TheVariants as interned
 use Rattle.recursion.specs.Jobs.{each}
 use Rattle.recursion.specs.Inner.Work.{Stands}
-use Rattle.recursion.specs.declared.Run.{Run}
-use Rattle.recursion.specs.declared.Run.TheVariants as run
 use Rattle.simplification.specs.Pass.{no_variable, apply}
 use Rattle.rebuilding.specs.Inner.Children.{setting, Agrees}
 use Rattle.pass.specs.Inner.Caches.{Caches}
 
 -- an outcome, from memory that held a: finished, it holds what grew from a, and the caches are right there; refused, a still stands in it
-pub data Leads (table : ℕ) (a : Arena) (R : ℕ → Bool) (w s dropped kept : List ℕ) : Interned → Out (ℕ × Arena) → Type 0 where
+pub data Leads (table : ℕ) (a : Arena) (R : ℕ → Bool) (w s dropped kept : List ℕ) : Out (ℕ × Counters) → Out (ℕ × Arena) → Type 0 where
   done : {m : ℕ} {d : Counters} {b : Arena} → Holds table w s d b → Ext a b → m < length b → Caches (length w) (length s) R b dropped kept
-      → Leads table a R w s dropped kept (interned.Node m d) (ok (m, b))
-  stop : {e : ℕ} → Stands w s a → Leads table a R w s dropped kept (interned.Refused e) (refuse e)
+      → Leads table a R w s dropped kept (Ok (m, d)) (Ok (m, b))
+  stop : {e : Refusal} → Stands w s a → Leads table a R w s dropped kept (Err e) (Err e)
 
 -- memory holds an arena with a node n, the set has the nodes of the variables R below it, and the caches are right
 pub record Ready (w s : List ℕ) (c : Counters) (n : ℕ) (removable dropped kept : List ℕ) : Type 0 where
@@ -34,7 +31,7 @@ pub record Ready (w s : List ℕ) (c : Counters) (n : ℕ) (removable dropped ke
 
 -- the outcome is the definition's, for any arena and variables of which that is so
 pub record Applies (w s : List ℕ) (c : Counters) (n : ℕ) (removable : List ℕ) (keep : Bool) (dropped kept w' s' dropped' kept' : List ℕ)
-    (r : Interned) : Type 0 where
+    (r : Out (ℕ × Counters)) : Type 0 where
   pub is : (table : ℕ) (a : Arena) (R : ℕ → Bool) → Holds table w s c a → Agrees removable R a n
       → Caches (length w) (length s) R a dropped kept
       → Leads table a R w' s' dropped' kept' r (apply (length w) (length s) a n (setting keep R) a)
@@ -51,7 +48,7 @@ pub record FirstMember (w s : List ℕ) (c : Counters) (n r : ℕ) : Type 0 wher
   pub is : (table : ℕ) (a : Arena) → Holds table w s c a → r ≡ get_or (children (at a n)) 0 0
 
 -- the outcome is what the first member of the list n becomes where no variable is removable
-pub record AppliesFirst (w s : List ℕ) (c : Counters) (n : ℕ) (removable dropped kept w' s' dropped' kept' : List ℕ) (r : Interned) : Type 0 where
+pub record AppliesFirst (w s : List ℕ) (c : Counters) (n : ℕ) (removable dropped kept w' s' dropped' kept' : List ℕ) (r : Out (ℕ × Counters)) : Type 0 where
   pub is : (table : ℕ) (a : Arena) (R : ℕ → Bool) → Holds table w s c a → Agrees removable R a n
       → Caches (length w) (length s) R a dropped kept
       → Leads table a R w' s' dropped' kept' r (apply (length w) (length s) a (get_or (children (at a n)) 0 0) no_variable a)
@@ -64,15 +61,15 @@ pub record EachReady (w s : List ℕ) (c : Counters) (n : ℕ) (items : List ℕ
   pub low : below n (take count items) ≡ true
 
 -- an outcome for several nodes: finished, the items are what they became
-pub data LeadsEach (table : ℕ) (a : Arena) (R : ℕ → Bool) (w s dropped kept items : List ℕ) (count : ℕ) : Run → Out
+pub data LeadsEach (table : ℕ) (a : Arena) (R : ℕ → Bool) (w s dropped kept items : List ℕ) (count : ℕ) : Out Counters → Out
     (List ℕ × Arena) → Type 0 where
   went : {d : Counters} {b : Arena} {ms : List ℕ} → Holds table w s d b → Ext a b → Caches (length w) (length s) R b dropped kept
       → length items ≡ 65 → take count items ≡ ms → length ms ≡ count → below (length b) ms ≡ true
-      → LeadsEach table a R w s dropped kept items count (run.Went d) (ok (ms, b))
-  stop : {e : ℕ} → Stands w s a → LeadsEach table a R w s dropped kept items count (run.Refused e) (refuse e)
+      → LeadsEach table a R w s dropped kept items count (Ok d) (Ok (ms, b))
+  stop : {e : Refusal} → Stands w s a → LeadsEach table a R w s dropped kept items count (Err e) (Err e)
 
 pub record AppliesEach (w s : List ℕ) (c : Counters) (n : ℕ) (items : List ℕ) (count : ℕ) (removable : List ℕ) (keep : Bool)
-    (dropped kept w' s' items' dropped' kept' : List ℕ) (r : Run) : Type 0 where
+    (dropped kept w' s' items' dropped' kept' : List ℕ) (r : Out Counters) : Type 0 where
   pub is : (table : ℕ) (a : Arena) (R : ℕ → Bool) → Holds table w s c a → Agrees removable R a n
       → Caches (length w) (length s) R a dropped kept
       → LeadsEach table a R w' s' dropped' kept' items' count r

@@ -1,6 +1,5 @@
 -- The two caches of a pass (01, "Forms of the Rust that can't be kept"): one entry for each node and each removal setting.
-use Rattle.std.specs.Prelude.{ℕ, suc, ◌<◌, ◌≡◌, Bool, true, false, List, length, get_or}
-use Rattle.types.specs.Out.{ok}
+use Rattle.std.specs.Prelude.{ℕ, suc, ◌<◌, ◌≡◌, Bool, true, false, List, length, get_or, Ok}
 use Rattle.types.specs.Arena.{Arena}
 use Rattle.simplification.specs.Pass.{apply}
 use Rattle.rebuilding.specs.Inner.Children.{setting}
@@ -13,7 +12,7 @@ entries false dropped kept = dropped
 -- node n of the arena becomes node m, and nothing is added then
 pub record Hit (lw ls : ℕ) (R : ℕ → Bool) (a : Arena) (n m : ℕ) : Type 0 where
   pub inside : n < length a
-  pub is : apply lw ls a n R a ≡ ok (m, a)
+  pub is : apply lw ls a n R a ≡ Ok (m, a)
   pub low : m < length a
 
 -- what the caches hold is so in the arena a, for the removable variables R

@@ -1,18 +1,13 @@
 -- Which variables lambdas take: what the functions ask and answer.
+use Rattle.std.specs.Prelude as std
 use Rattle.std.specs.Prelude.{ℕ, ◌<◌, ◌≡◌, Bool, true, false, ◌&&◌, ◌||◌, List, length, eqb}
 use Rattle.std.proofs.Math.Option.{Option, none, some}
+use Rattle.types.specs.Out.{option_of}
 use Rattle.types.specs.Arena.{Arena, at}
 use Rattle.types.specs.Memory.{Holds}
 use Rattle.types.specs.declared.Counters.{Counters}
 use Rattle.bits.specs.Bits.{has}
-use Rattle.questions.specs.declared.lambdas.Param.{Param}
-use Rattle.questions.specs.declared.lambdas.Param.TheVariants as param
 use Rattle.questions.specs.Lambdas.{param_of, takes_var, shared_in}
-
--- the enum's cases: the number of a variable's node, or none
-abbrev pub param_out : Param → Option ℕ
-param_out (param.Var p) = some p
-param_out param.Other = none
 
 -- what node n takes, if it is in the set and takes a variable
 unfoldable pub taken : Bool → Arena → ℕ → Option ℕ
@@ -20,8 +15,8 @@ unfolding at
 taken b a n = elim (b && takes_var a n) [ true ↦ some (param_of a n) | false ↦ none ]
 
 -- r is that, in any arena that memory holds
-pub record ParamAt (w s : List ℕ) (c : Counters) (b : Bool) (n : ℕ) (r : Param) : Type 0 where
-  pub is : (table : ℕ) (a : Arena) → Holds table w s c a → param_out r ≡ taken b a n
+pub record ParamAt (w s : List ℕ) (c : Counters) (b : Bool) (n : ℕ) (r : std.Option ℕ) : Type 0 where
+  pub is : (table : ℕ) (a : Arena) → Holds table w s c a → option_of r ≡ taken b a n
 
 -- the set has room for a node's number, if there is one
 pub record ParamRow (seen : List ℕ) (o : Option ℕ) : Type 0 where

@@ -1,6 +1,7 @@
 -- A node with other children: what the functions ask and answer.
 use Rattle.std.specs.Prelude.{ℕ, ◌+◌, ◌-◌, ◌<◌, ◌≤◌, ◌≡◌, true, List, length, get_or, take}
 use Rattle.words.specs.Words.{child}
+use Rattle.types.specs.Out.{Out}
 use Rattle.types.specs.Node.{node, tag, children, below}
 use Rattle.types.specs.Arena.{Arena, at}
 use Rattle.types.specs.Fault.{children_in}
@@ -9,7 +10,6 @@ use Rattle.types.specs.Reply.{reply_of}
 use Rattle.types.specs.declared.Counters.{Counters}
 use Rattle.node_store.specs.Inner.Stored.{Lent}
 use Rattle.node_store.specs.Intern.{intern, left}
-use Rattle.node_store.specs.declared.added.Interned.{Interned}
 
 -- a field word or a child word with another child, which stands in its lowest bits (01, "Words of the arena")
 unfoldable pub with_child : ℕ → ℕ → ℕ
@@ -50,6 +50,6 @@ pub record Rebuilding (w s : List ℕ) (c : Counters) (n : ℕ) (items : List �
   pub low : below c.nodes (take count items) ≡ true
 
 -- the answer, and memory after, are those of interning the node with these children
-pub record Rebuilds (w s : List ℕ) (c : Counters) (n : ℕ) (items : List ℕ) (count : ℕ) (w' s' : List ℕ) (r : Interned) : Type 0 where
+pub record Rebuilds (w s : List ℕ) (c : Counters) (n : ℕ) (items : List ℕ) (count : ℕ) (w' s' : List ℕ) (r : Out (ℕ × Counters)) : Type 0 where
   pub is : (table : ℕ) (a : Arena) → Holds table w s c a
       → left c r w' s' ≡ reply_of w s c (intern (length w) (length s) (node (tag (at a n)) (take count items)) a)

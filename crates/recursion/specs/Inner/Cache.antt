@@ -1,14 +1,13 @@
 -- The cache of a recursion (01, "Forms of the Rust that can't be kept"): one entry for each of 4,096 nodes, 0 for nothing yet, else a
 -- node's number and one.
-use Rattle.std.specs.Prelude.{ℕ, suc, ◌<◌, ◌≡◌, List, length, get_or, set}
-use Rattle.types.specs.Out.{ok}
+use Rattle.std.specs.Prelude.{ℕ, suc, ◌<◌, ◌≡◌, List, length, get_or, set, Ok}
 use Rattle.types.specs.Arena.{Arena}
 use Rattle.recursion.specs.Jobs.{Job}
 
 -- the job f of node n, one of so many, answers node m of the arena, and nothing is added then
 pub record Hit (f : ℕ → Job) (count : ℕ) (a : Arena) (n m : ℕ) : Type 0 where
   pub inside : n < count
-  pub is : f n a ≡ ok (m, a)
+  pub is : f n a ≡ Ok (m, a)
   pub low : m < length a
 
 -- every entry is so in the arena a

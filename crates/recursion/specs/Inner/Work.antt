@@ -1,22 +1,14 @@
 -- A recursion at work in lent memory: what its functions ask and answer.
-use Rattle.std.specs.Prelude.{ℕ, ◌-◌, ◌<◌, ◌≤◌, ◌≡◌, true, List, ◌++◌, length, take, replicate}
-use Rattle.types.specs.Out.{Out, ok, refuse}
+use Rattle.std.specs.Prelude.{ℕ, ◌-◌, ◌<◌, ◌≤◌, ◌≡◌, true, List, ◌++◌, length, take, replicate, Ok, Err}
+use Rattle.types.specs.declared.refusal.Refusal.{Refusal}
+use Rattle.types.specs.Out.{Out}
 use Rattle.types.specs.Node.{below}
 use Rattle.types.specs.Arena.{Arena, Ext}
 use Rattle.types.specs.Memory.{flat, heads, Holds}
 use Rattle.types.specs.declared.Counters.{Counters}
-use Rattle.node_store.specs.declared.added.Interned.{Interned}
-use Rattle.node_store.specs.declared.added.Interned.TheVariants as interned
 use Rattle.node_filter.specs.Inner.Filter.{CoversLent}
 use Rattle.recursion.specs.Jobs.{Job, each}
 use Rattle.recursion.specs.Inner.Cache.{Cache}
-use Rattle.recursion.specs.declared.Run.{Run}
-use Rattle.recursion.specs.declared.Run.TheVariants as run
-
--- the enum's cases: the counters after; the number of a refusal
-abbrev pub run_out : Run → Out Counters
-run_out (run.Went c) = ok c
-run_out (run.Refused e) = refuse e
 
 -- what is done with each node of a source, in so many lent words and starts
 abbrev pub Recursion : Type 0
@@ -36,10 +28,10 @@ pub record Stands (w s : List ℕ) (a : Arena) : Type 0 where
   pub starts : take (length a) s ≡ heads a
 
 -- an outcome, from memory that held a: finished, it holds what grew from a, and the cache is right there; refused, a still stands in it
-pub data Leads (table : ℕ) (a : Arena) (f : ℕ → Job) (count : ℕ) (w s entries : List ℕ) : Interned → Out (ℕ × Arena) → Type 0 where
+pub data Leads (table : ℕ) (a : Arena) (f : ℕ → Job) (count : ℕ) (w s entries : List ℕ) : Out (ℕ × Counters) → Out (ℕ × Arena) → Type 0 where
   done : {m : ℕ} {d : Counters} {b : Arena} → Holds table w s d b → Ext a b → m < length b → Cache f count b entries
-      → Leads table a f count w s entries (interned.Node m d) (ok (m, b))
-  stop : {e : ℕ} → Stands w s a → Leads table a f count w s entries (interned.Refused e) (refuse e)
+      → Leads table a f count w s entries (Ok (m, d)) (Ok (m, b))
+  stop : {e : Refusal} → Stands w s a → Leads table a f count w s entries (Err e) (Err e)
 
 -- memory holds an arena, a source with a node n stands to it as B says, and the cache is right
 pub record Ready (F : Recursion) (B : Relation) (w s : List ℕ) (c : Counters) (n : ℕ) (entries : List ℕ) : Type 0 where
@@ -53,7 +45,7 @@ pub record Ready (F : Recursion) (B : Relation) (w s : List ℕ) (c : Counters) 
 
 -- the outcome is the definition's, for any source and arena of which that is so
 pub record Does (F : Recursion) (B : Relation) (w s : List ℕ) (c : Counters) (n : ℕ) (entries w' s' entries' : List ℕ)
-    (r : Interned) : Type 0 where
+    (r : Out (ℕ × Counters)) : Type 0 where
   pub is : (table : ℕ) (u a : Arena) → Holds table w s c a → B table u a → n < length u
       → Cache (F (length w) (length s) u) (length u) a entries
       → Leads table a (F (length w) (length s) u) (length u) w' s' entries' r (F (length w) (length s) u n a)
@@ -67,23 +59,23 @@ pub record EachReady (F : Recursion) (B : Relation) (w s : List ℕ) (c : Counte
   pub low : below n (take count items) ≡ true
 
 -- an outcome for several nodes: finished, the items are what they became
-pub data LeadsEach (table : ℕ) (a : Arena) (f : ℕ → Job) (size : ℕ) (w s entries items : List ℕ) (count : ℕ) : Run → Out
+pub data LeadsEach (table : ℕ) (a : Arena) (f : ℕ → Job) (size : ℕ) (w s entries items : List ℕ) (count : ℕ) : Out Counters → Out
     (List ℕ × Arena) → Type 0 where
   went : {d : Counters} {b : Arena} {ms : List ℕ} → Holds table w s d b → Ext a b → Cache f size b entries → length items ≡ 65
       → take count items ≡ ms → length ms ≡ count → below (length b) ms ≡ true
-      → LeadsEach table a f size w s entries items count (run.Went d) (ok (ms, b))
-  stop : {e : ℕ} → Stands w s a → LeadsEach table a f size w s entries items count (run.Refused e) (refuse e)
+      → LeadsEach table a f size w s entries items count (Ok d) (Ok (ms, b))
+  stop : {e : Refusal} → Stands w s a → LeadsEach table a f size w s entries items count (Err e) (Err e)
 
 pub record DoesEach (F : Recursion) (B : Relation) (w s : List ℕ) (c : Counters) (n : ℕ) (items : List ℕ) (count : ℕ)
-    (entries w' s' items' entries' : List ℕ) (r : Run) : Type 0 where
+    (entries w' s' items' entries' : List ℕ) (r : Out Counters) : Type 0 where
   pub is : (table : ℕ) (u a : Arena) → Holds table w s c a → B table u a → n < length u
       → Cache (F (length w) (length s) u) (length u) a entries
       → LeadsEach table a (F (length w) (length s) u) (length u) w' s' entries' items' count r
       (each (F (length w) (length s) u) (take count items) a)
 
 -- the bits of every node that memory holds after a run are set in the filter, unless that was refused
-pub record CoversRun (w s : List ℕ) (r : Run) (filter : List ℕ) : Type 0 where
-  pub is : (d : Counters) → r ≡ run.Went d → CoversLent w s d filter
+pub record CoversRun (w s : List ℕ) (r : Out Counters) (filter : List ℕ) : Type 0 where
+  pub is : (d : Counters) → r ≡ Ok d → CoversLent w s d filter
 
 -- the words before the place stay, and the others are zero
 pub record TakesBack (w : List ℕ) (from : ℕ) (w' : List ℕ) : Type 0 where

@@ -1,19 +1,18 @@
 -- A refusal, a node with room for what it brings, and a 65th member.
+use mathlib.Core.Path.{refl, ap, ◌∙◌}
+use Rattle.std.specs.Result.{result_from_control_flow}
+use Rattle.types.proofs.Refusals.{passed}
 use Rattle.set_op_lists.proofs.Bringing.{passes_on, bring_ready, brings_more, brings_full}
-use mathlib.Core.Path.{refl}
-use Rattle.types.proofs.Refusals.{told_on}
-use Rattle.node_store.specs.Intern.{interned_out}
-use Rattle.node_store.specs.declared.added.Interned.TheVariants as interned
 use Rattle.set_op_lists.proofs.bring.Goals as goal
 
-pub returns-in_default : goal.returns-in_default
-returns-in_default c = passes_on c.requires (told_on interned.Refused interned_out (λ e. refl) c.in_default.is c.refusal.ensures)
+pub returns-in_err-m : goal.returns-in_err-m
+returns-in_err-m c = rw (passed _ _ c.from_residual.ensures.1) (passes_on c.requires (c.branch-m.ensures ∙ ap result_from_control_flow c.in_err-m.is))
 
-pub append_brought-grown-requires : goal.append_brought-grown-requires
-append_brought-grown-requires c = search bring_ready
+pub append_brought-requires : goal.append_brought-requires
+append_brought-requires c = bring_ready c.requires (c.branch-m.ensures ∙ ap result_from_control_flow c.in_ok-m.is)
 
-pub returns-in_default-grown : goal.returns-in_default-grown
-returns-in_default-grown c = brings_full c.requires c.in-Node.is c.append_brought-grown.ensures c.in_default-grown.is
+pub returns-in_err-next : goal.returns-in_err-next
+returns-in_err-next c = rw (passed _ _ c.from_residual-in_err-next.ensures.1) (brings_full c.requires (c.branch-m.ensures ∙ ap result_from_control_flow c.in_ok-m.is) c.in_err-next.ensures refl)
 
 pub returns : goal.returns
-returns c = brings_more c.requires c.in-Node.is c.append_brought-grown.ensures c.in-Count.is
+returns c = brings_more c.requires (c.branch-m.ensures ∙ ap result_from_control_flow c.in_ok-m.is) c.in_ok-next.ensures refl

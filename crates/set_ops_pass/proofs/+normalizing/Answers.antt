@@ -1,14 +1,7 @@
 use mathlib.Core.Path.{refl}
-use mathlib.Core.List.{[]}
 use borrow.Author.Rules.{rules}
-use Rattle.types.proofs.Refusals.{told_on}
-use Rattle.node_store.specs.Intern.{interned_out}
-use Rattle.node_store.specs.declared.added.Interned.TheVariants as interned
+use Rattle.types.proofs.Refusals.{passed}
 use Rattle.node_filter.proofs.Filters.{covers_kept, covers_refused, covers_told}
-use Rattle.recursion.specs.Inner.Work.{run_out}
-use Rattle.recursion.specs.declared.Run.TheVariants as run
-use Rattle.set_op_lists.specs.Inner.{brought_out}
-use Rattle.set_op_lists.specs.declared.Brought.TheVariants as brought
 use Rattle.recursion.proofs.Covering.{covers_stopped, covers_went}
 use Rattle.recursion.proofs.Remembering.{ready_small, cached_done, remember_room, remembered}
 use Rattle.recursion.proofs.Turns.{turn_start, turn_item, turn_ready, turn_refused, turn_more, turn_done}
@@ -31,17 +24,17 @@ flatten_set_op_cached-member_at-member-requires t c = search flat_member
 pub flatten_set_op_cached-normalize_set_ops_cached-r-requires : goal.flatten_set_op_cached-normalize_set_ops_cached-r-requires
 flatten_set_op_cached-normalize_set_ops_cached-r-requires t c = (search flat_falls, (search flat_ready, search rules))
 
-pub flatten_set_op_cached-bring-b-requires : goal.flatten_set_op_cached-bring-b-requires
-flatten_set_op_cached-bring-b-requires t c = flat_brings c.loop-i.invariant.0 c.loop-i-test.true c.member_at-member.ensures c.normalize_set_ops_cached-r.ensures.does
+pub flatten_set_op_cached-bring-requires : goal.flatten_set_op_cached-bring-requires
+flatten_set_op_cached-bring-requires t c = flat_brings c.loop-i.invariant.0 c.loop-i-test.true c.member_at-member.ensures c.normalize_set_ops_cached-r.ensures.does
 
-pub flatten_set_op_cached-returns-in_default-clause-does : goal.flatten_set_op_cached-returns-in_default-clause-does
-flatten_set_op_cached-returns-in_default-clause-does t c = flat_refused c.loop-i.invariant.0 c.loop-i-test.true c.member_at-member.ensures c.normalize_set_ops_cached-r.ensures.does c.bring-b.ensures (told_on brought.Refused (brought_out []) (λ e. refl) c.in_default.is c.refusal.ensures)
+pub flatten_set_op_cached-returns-in_err-next-clause-does : goal.flatten_set_op_cached-returns-in_err-next-clause-does
+flatten_set_op_cached-returns-in_err-next-clause-does t c = rw (passed _ _ c.from_residual.ensures.1) (flat_refused c.loop-i.invariant.0 c.loop-i-test.true c.member_at-member.ensures c.normalize_set_ops_cached-r.ensures.does c.in_err-next.ensures refl)
 
-pub flatten_set_op_cached-returns-in_default-clause-covers_after : goal.flatten_set_op_cached-returns-in_default-clause-covers_after
-flatten_set_op_cached-returns-in_default-clause-covers_after t c = covers_refused
+pub flatten_set_op_cached-returns-in_err-next-clause-covers_after : goal.flatten_set_op_cached-returns-in_err-next-clause-covers_after
+flatten_set_op_cached-returns-in_err-next-clause-covers_after t c = rw (passed _ _ c.from_residual.ensures.1) covers_refused
 
 pub flatten_set_op_cached-loop-i-preserved : goal.flatten_set_op_cached-loop-i-preserved
-flatten_set_op_cached-loop-i-preserved t c = (flat_more c.loop-i.invariant.0 c.loop-i-test.true c.member_at-member.ensures c.normalize_set_ops_cached-r.ensures.does c.bring-b.ensures c.in-Held.is (search rules) (search rules), brought_covers c.normalize_set_ops_cached-r.ensures.covers_after c.bring-b.ensures c.in-Held.is)
+flatten_set_op_cached-loop-i-preserved t c = (flat_more c.loop-i.invariant.0 c.loop-i-test.true c.member_at-member.ensures c.normalize_set_ops_cached-r.ensures.does c.in_ok-next.ensures refl (search rules) (search rules), brought_covers c.normalize_set_ops_cached-r.ensures.covers_after c.in_ok-next.ensures refl)
 
 pub flatten_set_op_cached-close_list-requires-clause-filled : goal.flatten_set_op_cached-close_list-requires-clause-filled
 flatten_set_op_cached-close_list-requires-clause-filled t c = search flat_filled
@@ -55,23 +48,23 @@ flatten_set_op_cached-returns-clause-does t c = search flat_done
 pub normalize_children-all_children-list-requires : goal.normalize_children-all_children-list-requires
 normalize_children-all_children-list-requires t c = search ready_range
 
-pub normalize_children-normalize_each-r-requires : goal.normalize_children-normalize_each-r-requires
-normalize_children-normalize_each-r-requires t c = (search (same_falls, rules), (search children_ready, search rules))
+pub normalize_children-normalize_each-requires : goal.normalize_children-normalize_each-requires
+normalize_children-normalize_each-requires t c = (search (same_falls, rules), (search children_ready, search rules))
 
-pub normalize_children-returns-in_default-clause-does : goal.normalize_children-returns-in_default-clause-does
-normalize_children-returns-in_default-clause-does t c = other_refused c.requires.other_ready c.all_children-list.ensures c.normalize_each-r.ensures.does_each (told_on run.Refused run_out (λ e. refl) c.in_default.is c.refusal.ensures)
+pub normalize_children-returns-in_err-d-clause-does : goal.normalize_children-returns-in_err-d-clause-does
+normalize_children-returns-in_err-d-clause-does t c = rw (passed _ _ c.from_residual.ensures.1) (other_refused c.requires.other_ready c.all_children-list.ensures c.in_err-d.ensures.does_each refl)
 
-pub normalize_children-returns-in_default-clause-covers_after : goal.normalize_children-returns-in_default-clause-covers_after
-normalize_children-returns-in_default-clause-covers_after t c = covers_refused
+pub normalize_children-returns-in_err-d-clause-covers_after : goal.normalize_children-returns-in_err-d-clause-covers_after
+normalize_children-returns-in_err-d-clause-covers_after t c = rw (passed _ _ c.from_residual.ensures.1) covers_refused
 
 pub normalize_children-rebuild-requires-clause-rebuilding : goal.normalize_children-rebuild-requires-clause-rebuilding
-normalize_children-rebuild-requires-clause-rebuilding t c = rebuilding c.requires.other_ready.ready c.all_children-list.ensures c.normalize_each-r.ensures.does_each c.in-Went.is
+normalize_children-rebuild-requires-clause-rebuilding t c = rebuilding c.requires.other_ready.ready c.all_children-list.ensures c.in_ok-d.ensures.does_each refl
 
 pub normalize_children-rebuild-requires-clause-covers_lent : goal.normalize_children-rebuild-requires-clause-covers_lent
-normalize_children-rebuild-requires-clause-covers_lent t c = c.normalize_each-r.ensures.covers_run.is _ c.in-Went.is
+normalize_children-rebuild-requires-clause-covers_lent t c = c.in_ok-d.ensures.covers_run.is _ refl
 
 pub normalize_children-returns-clause-does : goal.normalize_children-returns-clause-does
-normalize_children-returns-clause-does t c = other_done c.requires.other_ready c.all_children-list.ensures c.normalize_each-r.ensures.does_each c.in-Went.is c.rebuild.ensures.rebuilds (search rules) (search rules) (search rules) (search rules)
+normalize_children-returns-clause-does t c = other_done c.requires.other_ready c.all_children-list.ensures c.in_ok-d.ensures.does_each refl c.rebuild.ensures.rebuilds (search rules) (search rules) (search rules) (search rules)
 
 pub normalize_each-loop-i-init : goal.normalize_each-loop-i-init
 normalize_each-loop-i-init t c = (search turn_start, search rules)
@@ -79,17 +72,17 @@ normalize_each-loop-i-init t c = (search turn_start, search rules)
 pub normalize_each-item_at-item-requires : goal.normalize_each-item_at-item-requires
 normalize_each-item_at-item-requires t c = search turn_item
 
-pub normalize_each-normalize_set_ops_cached-r-requires : goal.normalize_each-normalize_set_ops_cached-r-requires
-normalize_each-normalize_set_ops_cached-r-requires t c = (search item_falls, (search (turn_ready, lawful), search rules))
+pub normalize_each-normalize_set_ops_cached-requires : goal.normalize_each-normalize_set_ops_cached-requires
+normalize_each-normalize_set_ops_cached-requires t c = (search item_falls, (search (turn_ready, lawful), search rules))
 
-pub normalize_each-returns-in_default-clause-does_each : goal.normalize_each-returns-in_default-clause-does_each
-normalize_each-returns-in_default-clause-does_each t c = turn_refused c.loop-i.invariant.0 c.loop-i-test.true c.item_at-item.ensures lawful c.normalize_set_ops_cached-r.ensures.does (told_on interned.Refused interned_out (λ e. refl) c.in_default.is c.refusal.ensures)
+pub normalize_each-returns-in_err-m-clause-does_each : goal.normalize_each-returns-in_err-m-clause-does_each
+normalize_each-returns-in_err-m-clause-does_each t c = rw (passed _ _ c.from_residual.ensures.1) (turn_refused c.loop-i.invariant.0 c.loop-i-test.true c.item_at-item.ensures lawful c.in_err-m.ensures.does refl)
 
-pub normalize_each-returns-in_default-clause-covers_run : goal.normalize_each-returns-in_default-clause-covers_run
-normalize_each-returns-in_default-clause-covers_run t c = covers_stopped
+pub normalize_each-returns-in_err-m-clause-covers_run : goal.normalize_each-returns-in_err-m-clause-covers_run
+normalize_each-returns-in_err-m-clause-covers_run t c = rw (passed _ _ c.from_residual.ensures.1) covers_stopped
 
 pub normalize_each-loop-i-preserved : goal.normalize_each-loop-i-preserved
-normalize_each-loop-i-preserved t c = (turn_more c.loop-i.invariant.0 c.loop-i-test.true c.item_at-item.ensures lawful c.normalize_set_ops_cached-r.ensures.does c.in-Node.is (search rules) (search rules), c.normalize_set_ops_cached-r.ensures.covers_after.is _ _ c.in-Node.is)
+normalize_each-loop-i-preserved t c = (turn_more c.loop-i.invariant.0 c.loop-i-test.true c.item_at-item.ensures lawful c.in_ok-m.ensures.does refl (search rules) (search rules), c.in_ok-m.ensures.covers_after.is _ _ refl)
 
 pub normalize_each-returns-clause-does_each : goal.normalize_each-returns-clause-does_each
 normalize_each-returns-clause-does_each t c = search turn_done

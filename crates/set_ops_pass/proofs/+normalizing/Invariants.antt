@@ -1,5 +1,5 @@
 -- The cycle: the measure is four times the node's number, and then which of the five.
-use Prim.Native.Nat.{◌+◌, ◌-◌, ◌*◌}
+use Prim.Native.Nat.{◌+◌, ◌*◌}
 use Rattle.node_filter.specs.Inner.Filter.{CoversLent}
 use Rattle.recursion.specs.Inner.Work.{Grown}
 use Rattle.recursion.proofs.Turns.{Turn}
@@ -26,12 +26,6 @@ abbrev pub invariant-flatten_set_op_cached-loop-i : goal.invariant-flatten_set_o
 invariant-flatten_set_op_cached-loop-i l =
     FlatTurn l.initial.words l.initial.starts l.initial.last l.n l.kind l.initial.cache l.total l.words l.starts l.cache l.list.items l.list.count l.met l.last l.i × CoversLent l.words l.starts l.last l.filter
 
-abbrev pub decreases-flatten_set_op_cached-loop-i : goal.decreases-flatten_set_op_cached-loop-i
-decreases-flatten_set_op_cached-loop-i l = l.total - l.i
-
 abbrev pub invariant-normalize_each-loop-i : goal.invariant-normalize_each-loop-i
 invariant-normalize_each-loop-i l =
     Turn normalize Grown l.initial.words l.initial.starts l.initial.last l.n l.initial.items l.count l.initial.cache l.words l.starts l.items l.cache l.last l.i × CoversLent l.words l.starts l.last l.filter
-
-abbrev pub decreases-normalize_each-loop-i : goal.decreases-normalize_each-loop-i
-decreases-normalize_each-loop-i l = l.count - l.i

@@ -1,25 +1,23 @@
 -- A sheet that was read lies in memory, and its table in the input.
-use Rattle.sheet_format.proofs.Reading.{table_low, table_high, sheet_in, sheet_refused, sheet_given}
 use mathlib.Core.Path.{refl}
-use Rattle.types.proofs.Refusals.{told_on}
-use Rattle.sheet_reading.specs.Inner.Reading.{reading_out}
-use Rattle.sheet_reading.specs.declared.Reading.TheVariants as reading
+use Rattle.types.proofs.Refusals.{passed}
+use Rattle.sheet_format.proofs.Reading.{table_low, table_high, sheet_in, sheet_refused, sheet_given}
 use Rattle.sheet_format.proofs.answer_sheet.Goals as goal
 
-pub returns-in_default : goal.returns-in_default
-returns-in_default c = sheet_refused c.read_sheet-reading.ensures (told_on reading.Refused reading_out (λ e. refl) c.in_default.is c.refusal.ensures)
+pub returns-in_err-sheet : goal.returns-in_err-sheet
+returns-in_err-sheet c = rw (passed _ _ c.from_residual.ensures.1) (sheet_refused c.in_err-sheet.ensures refl)
 
 pub slice_bounds-answer_type-count : goal.slice_bounds-answer_type-count
-slice_bounds-answer_type-count c = search table_low
+slice_bounds-answer_type-count c = table_low c.in_ok-sheet.ensures refl
 
 pub slice_bounds-answer_type-start : goal.slice_bounds-answer_type-start
-slice_bounds-answer_type-start c = search table_low
+slice_bounds-answer_type-start c = table_low c.in_ok-sheet.ensures refl
 
 pub slice_bounds-answer_type-end : goal.slice_bounds-answer_type-end
-slice_bounds-answer_type-end c = search table_high
+slice_bounds-answer_type-end c = table_high c.in_ok-sheet.ensures refl
 
 pub answer_type-requires : goal.answer_type-requires
-answer_type-requires c = search sheet_in
+answer_type-requires c = search (sheet_in c.in_ok-sheet.ensures refl)
 
 pub returns : goal.returns
-returns c = search sheet_given
+returns c = sheet_given c.in_ok-sheet.ensures refl c.answer_type.ensures

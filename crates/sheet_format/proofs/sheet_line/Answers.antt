@@ -5,11 +5,11 @@ use Rattle.sheet_format.proofs.sheet_line.Goals as goal
 pub slice_bounds-text-end : goal.slice_bounds-text-end
 slice_bounds-text-end c = search text_inside
 
-pub slice_bounds-write_type-end-in-Type : goal.slice_bounds-write_type-end-in-Type
-slice_bounds-write_type-end-in-Type c = search text_length
+pub slice_bounds-write_type-end-in-Ok : goal.slice_bounds-write_type-end-in-Ok
+slice_bounds-write_type-end-in-Ok c = search text_length
 
-pub returns-in-Refused : goal.returns-in-Refused
-returns-in-Refused c = search line_refused
+pub returns-in-Err : goal.returns-in-Err
+returns-in-Err c = search line_refused
 
-pub returns-in-Type : goal.returns-in-Type
-returns-in-Type c = search line_type
+pub returns-in-Ok : goal.returns-in-Ok
+returns-in-Ok c = search line_type

@@ -1,41 +1,22 @@
 -- What the functions that read bytes, names and nodes ask and answer.
-use Rattle.std.specs.Prelude.{ℕ, zero, suc, ◌+◌, ◌/◌, ◌^◌, ◌<◌, ◌≤◌, ◌≡◌, true, List, [], ◌∷◌, length, get_or, take, drop}
+use Rattle.std.specs.Prelude.{ℕ, zero, suc, ◌+◌, ◌/◌, ◌^◌, ◌<◌, ◌≤◌, ◌≡◌, true, List, [], ◌∷◌, length, take, drop, Ok, Err}
 use Rattle.words.specs.Words.{head_kind, head_dynamic}
 use Rattle.words.specs.Inner.{renewed}
 use Rattle.words.specs.declared.Layout.{Layout}
 use Rattle.words.specs.declared.Layout.TheVariants as layout
-use Rattle.types.specs.Out.{Out, ok, refuse}
+use Rattle.types.specs.declared.refusal.Refusal.{Refusal}
+use Rattle.types.specs.Out.{Out}
 use Rattle.types.specs.Node.{below}
 use Rattle.types.specs.Arena.{Arena}
 use Rattle.types.specs.Memory.{Holds}
 use Rattle.types.specs.declared.Counters.{Counters}
 use Rattle.node_order.specs.WordsOrder.{field_count}
-use Rattle.node_store.specs.declared.added.Interned.{Interned}
-use Rattle.node_store.specs.declared.added.Interned.TheVariants as interned
 use Rattle.node_filter.specs.Inner.Filter.{CoversLent}
-use Rattle.sheet_reading.specs.declared.bytes.Place.{Place}
-use Rattle.sheet_reading.specs.declared.bytes.Place.TheVariants as place
-use Rattle.sheet_reading.specs.declared.nodes.Nodes.{Nodes}
-use Rattle.sheet_reading.specs.declared.nodes.Nodes.TheVariants as stored
 use Rattle.sheet_reading.specs.Sheet.{value, name, names, words, node_words, added, node, nodes}
-
--- the enums' cases: a place; the number of a refusal
-abbrev pub place_out : Place → Out ℕ
-place_out (place.At n) = ok n
-place_out (place.Refused e) = refuse e
-
-abbrev pub nodes_out : Nodes → Out ℕ
-nodes_out (stored.To n d) = ok n
-nodes_out (stored.Refused e) = refuse e
 
 -- k bytes stand there from `at` on
 pub record Inside (bytes : List ℕ) (at k : ℕ) : Type 0 where
   pub fits : at + k ≤ length bytes
-
--- r is the byte there
-pub record ByteAt (bytes : List ℕ) (at r : ℕ) : Type 0 where
-  pub is : r ≡ get_or bytes at 0
-  pub small : r < 256
 
 -- r is the number of 16 bits there
 pub record ShortAt (bytes : List ℕ) (at r : ℕ) : Type 0 where
@@ -48,21 +29,21 @@ pub record WordAt (bytes : List ℕ) (at r : ℕ) : Type 0 where
   pub small : r < 2 ^ 32
 
 -- an outcome of a reader: the place where the bytes go on, not before `from`, or a refusal
-pub data Reads {A : Type 0} (bytes : List ℕ) (from : ℕ) : Place → Out (A × List ℕ) → Type 0 where
-  to : {e : ℕ} {v : A} → from ≤ e → e ≤ length bytes → Reads bytes from (place.At e) (ok (v, drop e bytes))
-  stop : {e : ℕ} → Reads bytes from (place.Refused e) (refuse e)
+pub data Reads {A : Type 0} (bytes : List ℕ) (from : ℕ) : Out ℕ → Out (A × List ℕ) → Type 0 where
+  to : {e : ℕ} {v : A} → from ≤ e → e ≤ length bytes → Reads bytes from (Ok e) (Ok (v, drop e bytes))
+  stop : {e : Refusal} → Reads bytes from (Err e) (Err e)
 
 -- the place lies in the bytes
 pub record Here (bytes : List ℕ) (at : ℕ) : Type 0 where
   pub inside : at ≤ length bytes
 
-pub record ReadsName (bytes previous : List ℕ) (at : ℕ) (r : Place) : Type 0 where
+pub record ReadsName (bytes previous : List ℕ) (at : ℕ) (r : Out ℕ) : Type 0 where
   pub is : Reads bytes at r (name previous (drop at bytes))
 
-pub record ReadsNames (bytes : List ℕ) (at count : ℕ) (r : Place) : Type 0 where
+pub record ReadsNames (bytes : List ℕ) (at count : ℕ) (r : Out ℕ) : Type 0 where
   pub is : Reads bytes at r (names count [] (drop at bytes))
 
-pub record ReadsWords (bytes : List ℕ) (at : ℕ) (r : Place) : Type 0 where
+pub record ReadsWords (bytes : List ℕ) (at : ℕ) (r : Out ℕ) : Type 0 where
   pub is : Reads bytes at r (node_words (drop at bytes))
 
 -- a stretch of 1 to 66 words, and room for them
@@ -119,18 +100,18 @@ pub record CopiedAs (l : Layout) (bytes node : List ℕ) (r : ℕ) : Type 0 wher
   pub small : below (2 ^ 32) (words r bytes) ≡ true
 
 -- an outcome of adding a node: finished, memory holds the arena; what a refusal leaves is free
-pub data Adds (table : ℕ) (w s : List ℕ) : Interned → Out Arena → Type 0 where
-  done : {n : ℕ} {d : Counters} {b : Arena} → Holds table w s d b → Adds table w s (interned.Node n d) (ok b)
-  stop : {e : ℕ} → Adds table w s (interned.Refused e) (refuse e)
+pub data Adds (table : ℕ) (w s : List ℕ) : Out (ℕ × Counters) → Out Arena → Type 0 where
+  done : {n : ℕ} {d : Counters} {b : Arena} → Holds table w s d b → Adds table w s (Ok (n, d)) (Ok b)
+  stop : {e : Refusal} → Adds table w s (Err e) (Err e)
 
-pub record AddsNode (table : ℕ) (w s : List ℕ) (c : Counters) (ws w' s' : List ℕ) (r : Interned) : Type 0 where
+pub record AddsNode (table : ℕ) (w s : List ℕ) (c : Counters) (ws w' s' : List ℕ) (r : Out (ℕ × Counters)) : Type 0 where
   pub is : (a : Arena) → Holds table w s c a → Adds table w' s' r (added layout.New (length w) (length s) table ws a)
 
 -- an outcome of reading nodes: the place where the bytes go on, and memory holds the arena; what a refusal leaves is free
-pub data Stores (bytes : List ℕ) (table : ℕ) (w s : List ℕ) : Nodes → Out (Arena × List ℕ) → Type 0 where
+pub data Stores (bytes : List ℕ) (table : ℕ) (w s : List ℕ) : Out (ℕ × Counters) → Out (Arena × List ℕ) → Type 0 where
   to : {e : ℕ} {d : Counters} {b : Arena} → e ≤ length bytes → Holds table w s d b
-      → Stores bytes table w s (stored.To e d) (ok (b, drop e bytes))
-  stop : {e : ℕ} → Stores bytes table w s (stored.Refused e) (refuse e)
+      → Stores bytes table w s (Ok (e, d)) (Ok (b, drop e bytes))
+  stop : {e : Refusal} → Stores bytes table w s (Err e) (Err e)
 
 -- the place lies in the bytes, and memory holds some arena
 pub record Ready (bytes : List ℕ) (at table : ℕ) (w s : List ℕ) (c : Counters) : Type 0 where
@@ -138,17 +119,17 @@ pub record Ready (bytes : List ℕ) (at table : ℕ) (w s : List ℕ) (c : Count
   pub view : Arena
   pub holds : Holds table w s c view
 
-pub record StoresNode (l : Layout) (bytes : List ℕ) (at table : ℕ) (w s : List ℕ) (c : Counters) (w' s' : List ℕ) (r : Nodes) : Type 0 where
+pub record StoresNode (l : Layout) (bytes : List ℕ) (at table : ℕ) (w s : List ℕ) (c : Counters) (w' s' : List ℕ) (r : Out (ℕ × Counters)) : Type 0 where
   pub is : (a : Arena) → Holds table w s c a → Stores bytes table w' s' r (node l (length w) (length s) table a (drop at bytes))
 
 -- the nodes that memory then holds are in the filter, unless that is a refusal
-pub record CoversNodes (w s : List ℕ) (r : Nodes) (filter : List ℕ) : Type 0 where
-  pub is : (e : ℕ) (d : Counters) → r ≡ stored.To e d → CoversLent w s d filter
+pub record CoversNodes (w s : List ℕ) (r : Out (ℕ × Counters)) (filter : List ℕ) : Type 0 where
+  pub is : (e : ℕ) (d : Counters) → r ≡ Ok (e, d) → CoversLent w s d filter
 
 -- the same with memory that holds the arena without a node
 pub record ReadyEmpty (bytes : List ℕ) (at table : ℕ) (w s : List ℕ) : Type 0 where
   pub inside : at ≤ length bytes
   pub holds : Holds table w s (record { nodes = 0; words = 0 }) []
 
-pub record StoresNodes (l : Layout) (bytes : List ℕ) (at table count : ℕ) (w s w' s' : List ℕ) (r : Nodes) : Type 0 where
+pub record StoresNodes (l : Layout) (bytes : List ℕ) (at table count : ℕ) (w s w' s' : List ℕ) (r : Out (ℕ × Counters)) : Type 0 where
   pub is : Stores bytes table w' s' r (nodes l (length w) (length s) table count [] (drop at bytes))

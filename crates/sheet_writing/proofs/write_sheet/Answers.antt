@@ -1,12 +1,13 @@
--- 1 and 2 by `judge`; what the names and the memory are then known for.
+-- The verdict's refusals; what the names and the memory are then known for.
+use Rattle.types.proofs.Refusals.{passed}
 use Rattle.sheet_writing.proofs.Replies.{known, sheet_refused, sheet_done}
 use Rattle.sheet_writing.proofs.write_sheet.Goals as goal
 
 pub write_root-requires : goal.write_root-requires
-write_root-requires c = search known
+write_root-requires c = search (known, c.in_ok-names.ensures)
 
-pub returns-in-Names : goal.returns-in-Names
-returns-in-Names c = search sheet_done
+pub returns : goal.returns
+returns c = search (sheet_done, c.in_ok-names.ensures)
 
-pub returns-in-Refused : goal.returns-in-Refused
-returns-in-Refused c = search sheet_refused
+pub returns-in_err-names : goal.returns-in_err-names
+returns-in_err-names c = rw (passed _ _ c.from_residual.ensures.1) (sheet_refused _ _ _ _ _ _ c.in_err-names.ensures)

@@ -3,6 +3,4 @@ use Rattle.sheet_writing.proofs.Writing.{word_written}
 use Rattle.sheet_writing.proofs.write_word.Goals as goal
 
 pub returns : goal.returns
-returns c =
-    word_written c.wide-w.ensures c.low_byte.ensures c.low_byte-2.ensures c.low_byte-3.ensures
-    c.low_byte-4.ensures c.append.ensures
+returns c = word_written c.args.word c.to_be_bytes.ensures c.append.ensures

@@ -1,11 +1,6 @@
--- The invariant: i words are written, one behind another.
-use Prim.Native.Nat.{◌-◌}
-use lib.ListN.{length}
+-- The invariant: the words passed are written, one behind another.
 use Rattle.sheet_writing.proofs.Writing.{Turn}
 use Rattle.sheet_writing.proofs.write_words.Given as goal
 
-abbrev pub invariant-loop-i : goal.invariant-loop-i
-invariant-loop-i l = Turn l.words l.initial.bytes l.count l.bytes l.end l.i
-
-abbrev pub decreases-loop-i : goal.decreases-loop-i
-decreases-loop-i l = length l.words - l.i
+abbrev pub invariant-loop-word : goal.invariant-loop-word
+invariant-loop-word l = Turn l.words l.initial.bytes l.count l.bytes l.end l.word-index

@@ -1,13 +1,14 @@
--- 1 and 2 are the verdict's; what follows them is that of `simplify_lent`.
+-- The verdict's refusals; what follows them is that of `simplify_lent`.
+use Rattle.types.proofs.Refusals.{passed}
 use Rattle.soundness.proofs.Verdicts.{lent_known}
 use Rattle.simplify.proofs.Hosts.{host_refused, host_done}
 use Rattle.simplify.proofs.simplify.Goals as goal
 
-pub simplify_lent-requires : goal.simplify_lent-requires
-simplify_lent-requires c = search lent_known
+pub returns-in_err-judge : goal.returns-in_err-judge
+returns-in_err-judge c = rw (passed _ _ c.from_residual.ensures.1) (host_refused _ _ _ _ _ c.in_err-judge.ensures)
 
-pub returns-in_default : goal.returns-in_default
-returns-in_default c = search host_done
+pub simplify_lent-requires : goal.simplify_lent-requires
+simplify_lent-requires c = search (lent_known, c.in_ok-judge.ensures)
 
 pub returns : goal.returns
-returns c = search host_refused
+returns c = search (host_done, c.in_ok-judge.ensures)

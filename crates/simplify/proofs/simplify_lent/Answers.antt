@@ -10,4 +10,4 @@ pub returns-in_default : goal.returns-in_default
 returns-in_default c = search run_done
 
 pub returns : goal.returns
-returns c = run_stopped c.wide.ensures (search rules) c.simplify_in-r.ensures c.in-Refused.is c.take_back_nodes.ensures (search rules) (search rules)
+returns c = run_stopped c.wide.ensures (search rules) c.simplify_in-r.ensures c.in-Err.is c.take_back_nodes.ensures (search rules) (search rules)

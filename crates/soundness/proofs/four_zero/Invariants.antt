@@ -1,11 +1,6 @@
 -- The invariant: the words passed of each stretch are zero exactly if no bit of them is set.
-use Prim.Native.Nat.{◌-◌}
-use lib.ListN.{length}
 use Rattle.soundness.proofs.Zeros.{Four}
 use Rattle.soundness.proofs.four_zero.Given as goal
 
 abbrev pub invariant-loop-i : goal.invariant-loop-i
 invariant-loop-i l = Four l.a l.b l.c l.d l.ones l.i
-
-abbrev pub decreases-loop-i : goal.decreases-loop-i
-decreases-loop-i l = length l.a - l.i

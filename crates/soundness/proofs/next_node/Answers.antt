@@ -17,11 +17,11 @@ returns-then-used-at-clause-next c = search next_long
 pub returns-then-used-at-clause-next_sets : goal.returns-then-used-at-clause-next_sets
 returns-then-used-at-clause-next_sets c = search none_set
 
-pub returns-then-fault-ne0-clause-next : goal.returns-then-fault-ne0-clause-next
-returns-then-fault-ne0-clause-next c = search next_fault
+pub returns-then-is_err-clause-next : goal.returns-then-is_err-clause-next
+returns-then-is_err-clause-next c = search next_fault
 
-pub returns-then-fault-ne0-clause-next_sets : goal.returns-then-fault-ne0-clause-next_sets
-returns-then-fault-ne0-clause-next_sets c = search none_set
+pub returns-then-is_err-clause-next_sets : goal.returns-then-is_err-clause-next_sets
+returns-then-is_err-clause-next_sets c = search none_set
 
 pub slice_bounds-find_filtered-end : goal.slice_bounds-find_filtered-end
 slice_bounds-find_filtered-end c = search passed_words
@@ -29,17 +29,17 @@ slice_bounds-find_filtered-end c = search passed_words
 pub slice_bounds-find_filtered-end-2 : goal.slice_bounds-find_filtered-end-2
 slice_bounds-find_filtered-end-2 c = search passed_starts
 
-pub find_filtered-found-requires-clause-searched : goal.find_filtered-found-requires-clause-searched
-find_filtered-found-requires-clause-searched c = next_searched _ c.requires.passed c.fault.ensures c.if-fault-ne0.false
+pub find_filtered-requires-clause-searched : goal.find_filtered-requires-clause-searched
+find_filtered-requires-clause-searched c = next_searched _ c.requires.passed c.check_node.ensures c.is_err.ensures.value c.if-is_err.false
 
-pub find_filtered-found-requires-clause-covers_lent : goal.find_filtered-found-requires-clause-covers_lent
-find_filtered-found-requires-clause-covers_lent c = next_covered c.requires
+pub find_filtered-requires-clause-covers_lent : goal.find_filtered-requires-clause-covers_lent
+find_filtered-requires-clause-covers_lent c = next_covered c.requires
 
-pub returns-in-At-clause-next : goal.returns-in-At-clause-next
-returns-in-At-clause-next c = search next_twice
+pub returns-in-Some-clause-next : goal.returns-in-Some-clause-next
+returns-in-Some-clause-next c = search next_twice
 
-pub returns-in-At-clause-next_sets : goal.returns-in-At-clause-next_sets
-returns-in-At-clause-next_sets c = search none_set
+pub returns-in-Some-clause-next_sets : goal.returns-in-Some-clause-next_sets
+returns-in-Some-clause-next_sets c = search none_set
 
 pub returns-clause-next : goal.returns-clause-next
 returns-clause-next c = search next_good

@@ -1,5 +1,5 @@
 -- Memory read node by node: what is known of the nodes so far, and which node may come next.
-use Rattle.std.specs.Prelude.{ℕ, ◌+◌, ◌≤◌, ◌≡◌, true, List, ◌∷◌, length, take, drop}
+use Rattle.std.specs.Prelude.{ℕ, ◌+◌, ◌≤◌, ◌≡◌, true, List, ◌∷◌, length, take, drop, Option, Some, None}
 use Rattle.types.specs.Node.{Node, encode}
 use Rattle.types.specs.Arena.{Arena, sound}
 use Rattle.types.specs.Memory.{Holds}
@@ -32,11 +32,11 @@ pub record NextNode (table : ℕ) (w : List ℕ) (a : Arena) (at used k : ℕ) :
   pub room : at + k ≤ used
   pub good : sound table (node ∷ a) ≡ true
 
--- r is how many words that node takes, or 0 where there is none
-pub record Next (table : ℕ) (w s : List ℕ) (c : Counters) (n at r : ℕ) : Type 0 where
-  pub found : (a : Arena) → Begun table w s n at a → (r ≡ 0 → ⊥) → NextNode table w a at c.words r
-  pub missing : (a : Arena) → Begun table w s n at a → r ≡ 0 → (k : ℕ) → NextNode table w a at c.words k → ⊥
+-- r is how many words that node takes, where there is one
+pub record Next (table : ℕ) (w s : List ℕ) (c : Counters) (n at : ℕ) (r : Option ℕ) : Type 0 where
+  pub found : (a : Arena) → Begun table w s n at a → (k : ℕ) → r ≡ Some k → NextNode table w a at c.words k
+  pub missing : (a : Arena) → Begun table w s n at a → r ≡ None → (k : ℕ) → NextNode table w a at c.words k → ⊥
 
--- where there is one, its bits are set
-pub record NextSets (w : List ℕ) (at : ℕ) (filter : List ℕ) (r : ℕ) (filter' : List ℕ) : Type 0 where
-  pub is : (r ≡ 0 → ⊥) → Sets filter (hash_of (take r (drop at w))) filter'
+-- then its bits are set
+pub record NextSets (w : List ℕ) (at : ℕ) (filter : List ℕ) (r : Option ℕ) (filter' : List ℕ) : Type 0 where
+  pub is : (k : ℕ) → r ≡ Some k → Sets filter (hash_of (take k (drop at w))) filter'

@@ -1,15 +1,13 @@
 -- What the functions that judge memory ask and answer.
-use Rattle.std.specs.Prelude.{ℕ, ◌≤◌, ◌≡◌, Bool, true, false, List, length, drop}
+use Rattle.std.specs.Prelude.{ℕ, ◌≤◌, ◌≡◌, Bool, true, false, List, length, drop, Ok}
 use Rattle.std.proofs.Math.Option.{Option, none, some}
 use Rattle.types.specs.Node.{below}
 use Rattle.types.specs.Arena.{Arena}
 use Rattle.types.specs.Memory.{arena_of}
-use Rattle.types.specs.Out.{Out, ok, refuse}
+use Rattle.types.specs.Out.{Out}
 use Rattle.types.specs.Reply.{tabled, judged}
 use Rattle.types.specs.declared.Counters.{Counters}
 use Rattle.names.specs.Table.{Name, names_of}
-use Rattle.soundness.specs.declared.Judged.{Judged}
-use Rattle.soundness.specs.declared.Judged.TheVariants as verdict
 
 abbrev pub is_some : Option Arena → Bool
 is_some none = false
@@ -36,9 +34,4 @@ pub record Within (w s : List ℕ) (c : Counters) (r : Bool) : Type 0 where
 -- the count of the table's names, where the table is good and memory holds an arena under it: 1 and 2 of every call open to a host
 unfoldable pub lent_reply : List ℕ → List ℕ → List ℕ → Counters → Out ℕ
 unfolding tabled names_of judged
-lent_reply t w s c = tabled (names_of t) (λ (ns : List Name). judged (length ns) w s c (λ (a : Arena). ok (length ns)))
-
--- the enum's cases: the count of names; the number of a refusal
-abbrev pub judged_out : Judged → Out ℕ
-judged_out (verdict.Names n) = ok n
-judged_out (verdict.Refused e) = refuse e
+lent_reply t w s c = tabled (names_of t) (λ (ns : List Name). judged (length ns) w s c (λ (a : Arena). Ok (length ns)))

@@ -3,4 +3,4 @@ use Rattle.spelling.proofs.Identifiers.{continues_told}
 use Rattle.spelling.proofs.continues.Goals as goal
 
 pub returns : goal.returns
-returns c = search continues_told
+returns c = continues_told c.args.byte c.begins.ensures c.is_ascii_digit.ensures.value

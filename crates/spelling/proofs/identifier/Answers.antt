@@ -1,20 +1,19 @@
-use Rattle.spelling.proofs.Identifiers.{identifier_none, first_not, first_passed, byte_not, byte_passed, all_passed}
+-- The first byte begins an identifier, and each other goes on with it.
+use Rattle.std.proofs.Common.{rules}
+use Rattle.std.proofs.lemmas.Iterator.{YieldsList-from_slice}
+use Rattle.std.proofs.lemmas.Iterator.Search.{all_from_yields_List}
+use borrow.Author.Tests.{tests}
+use Rattle.spelling.specs.Spelling.{continues}
+use Rattle.spelling.proofs.Identifiers.{identifier_none, first_not, first_then}
 use Rattle.spelling.proofs.identifier.Goals as goal
 
-pub returns-then-name-eq0 : goal.returns-then-name-eq0
-returns-then-name-eq0 c = search identifier_none
+pub returns-in_default : goal.returns-in_default
+returns-in_default c = search (identifier_none, c.in_default.ensures.cases)
 
-pub returns-then-not-begins : goal.returns-then-not-begins
-returns-then-not-begins c = search first_not
+pub returns-then-begins : goal.returns-then-begins
+returns-then-begins c =
+    first_then c.in-Some.ensures.cases.0 c.begins.ensures c.if-begins.true
+    (all_from_yields_List continues _ _ _ c.all.ensures.ran (YieldsList-from_slice c.in-Some.rest.now cc) (λ x b q k. search (rules, tests)))
 
-pub loop-i-init : goal.loop-i-init
-loop-i-init c = search first_passed
-
-pub returns-then-not-continues : goal.returns-then-not-continues
-returns-then-not-continues c = search byte_not
-
-pub loop-i-preserved : goal.loop-i-preserved
-loop-i-preserved c = search byte_passed
-
-pub returns : goal.returns
-returns c = search all_passed
+pub returns-else-begins : goal.returns-else-begins
+returns-else-begins c = first_not c.in-Some.ensures.cases.0 c.begins.ensures c.if-begins.false

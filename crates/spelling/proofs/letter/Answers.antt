@@ -1,8 +1,7 @@
--- The tests of the definition.
-use Rattle.spelling.specs.Spelling.{letter}
-use borrow.Author.Rules.{rules}
+-- The letters of ASCII.
+use mathlib.Core.Path.{◌∙◌}
+use Rattle.spelling.proofs.Identifiers.{letter_told}
 use Rattle.spelling.proofs.letter.Goals as goal
 
 pub returns : goal.returns
-unfolding letter
-returns c = search rules
+returns c = c.is_ascii_alphabetic.ensures.value ∙ letter_told c.args.byte

@@ -6,5 +6,5 @@ use Rattle.appending.proofs.spelled.write_nix.Goals as goal
 pub returns-then-plain : goal.returns-then-plain
 returns-then-plain c = search (nix_written true)
 
-pub returns : goal.returns
-returns c = search (nix_written false)
+pub returns-else-plain : goal.returns-else-plain
+returns-else-plain c = search (nix_written false)

@@ -1,11 +1,6 @@
 -- The invariant: i children have the one beside them as their partner, and nothing else is new.
-use Prim.Native.Nat.{◌-◌}
-use lib.ListN.{length}
 use Rattle.equal.proofs.Pairing.{Giving}
 use Rattle.equal.proofs.pairs.pair_children.Given as goal
 
 abbrev pub invariant-loop-i : goal.invariant-loop-i
-invariant-loop-i l = Giving l.a l.b l.left l.right l.initial.partners l.partners l.i
-
-abbrev pub decreases-loop-i : goal.decreases-loop-i
-decreases-loop-i l = length l.left - l.i
+invariant-loop-i l = Giving l.a l.b l.word-items l.right l.initial.partners l.partners l.i

@@ -1,21 +1,12 @@
 -- No partner, other data, or the pairs of children.
-use Rattle.equal.proofs.Visits.{visit_small, visit_map, visit_left, visit_none, visit_right, visit_headed, visit_unlike, visit_level, visit_paired}
+use Rattle.equal.proofs.Visits.{visit_small, visit_right, visit_headed, visit_unlike, visit_level, visit_paired}
 use Rattle.equal.proofs.pairs.visit.Goals as goal
 
 pub partner_of-there-requires : goal.partner_of-there-requires
 partner_of-there-requires c = search visit_small
 
-pub returns-then-there-eq0 : goal.returns-then-there-eq0
-returns-then-there-eq0 c = search visit_none
-
-pub node_at-a-requires : goal.node_at-a-requires
-node_at-a-requires c = search visit_left
-
 pub node_at-b-requires : goal.node_at-b-requires
 node_at-b-requires c = search visit_right
-
-pub same_data-requires-clause-names_len : goal.same_data-requires-clause-names_len
-same_data-requires-clause-names_len c = search visit_map
 
 pub same_data-requires-clause-a_nonzero : goal.same_data-requires-clause-a_nonzero
 same_data-requires-clause-a_nonzero c = search visit_headed

@@ -1,10 +1,6 @@
 -- The invariant: the words passed are joined, and the others are as they were.
-use Prim.Native.Nat.{◌-◌}
 use Rattle.fitting.proofs.Joining.{Joining}
 use Rattle.fitting.proofs.joined.join.Given as goal
 
 abbrev pub invariant-loop-i : goal.invariant-loop-i
 invariant-loop-i l = Joining l.kind l.initial.row l.pairs l.width l.n l.row l.i
-
-abbrev pub decreases-loop-i : goal.decreases-loop-i
-decreases-loop-i l = l.width - l.i

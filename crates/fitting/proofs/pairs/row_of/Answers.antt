@@ -1,15 +1,6 @@
 -- Each kind has its row.
-use Rattle.fitting.proofs.NodeRows.{row_var, row_lambda, hold_primitive, hold_list, hold_set, body_rows, row_joined}
+use Rattle.fitting.proofs.NodeRows.{row_var, row_lambda, body_rows, row_joined}
 use Rattle.fitting.proofs.pairs.row_of.Goals as goal
-
-pub taken_row-requires : goal.taken_row-requires
-taken_row-requires c = search hold_primitive
-
-pub taken_row-requires-in-4 : goal.taken_row-requires-in-4
-taken_row-requires-in-4 c = search hold_list
-
-pub taken_row-requires-in-6 : goal.taken_row-requires-in-6
-taken_row-requires-in-6 c = search hold_set
 
 pub joined_row-requires : goal.joined_row-requires
 joined_row-requires c = search body_rows

@@ -1,11 +1,6 @@
 -- The invariant: the fields passed have names below.
-use Prim.Native.Nat.{◌-◌}
-use lib.ListN.{length}
 use Rattle.fitting.proofs.Seeking.{Sought}
 use Rattle.fitting.proofs.sets.seek.Given as goal
 
 abbrev pub invariant-loop-i : goal.invariant-loop-i
 invariant-loop-i l = Sought l.fields l.from l.name l.i
-
-abbrev pub decreases-loop-i : goal.decreases-loop-i
-decreases-loop-i l = length l.fields - l.i

@@ -1,6 +1,6 @@
 -- The last word of the body is the dynamic type, if there is one; the others are the fields.
-use Rattle.node_order.proofs.Splits.{body_lent}
-use Rattle.fitting.proofs.Held.{set_some, open_asks, open_takes, last_there, last_inside, last_kept, type_asks, type_takes}
+use Rattle.types.proofs.Lists.{body_lent}
+use Rattle.fitting.proofs.Held.{set_some, open_asks, open_takes, last_there, last_inside, type_asks, type_takes}
 use Rattle.fitting.proofs.taken.attr_set_takes.Goals as goal
 
 pub bounds-node-0 : goal.bounds-node-0
@@ -23,9 +23,6 @@ overflow_sub-last c = search (last_there, body_lent)
 
 pub bounds-body-last : goal.bounds-body-last
 bounds-body-last c = search (last_inside, body_lent)
-
-pub slice_bounds-set_takes-end : goal.slice_bounds-set_takes-end
-slice_bounds-set_takes-end c = search (last_kept, body_lent)
 
 pub set_takes-requires-2 : goal.set_takes-requires-2
 set_takes-requires-2 c = search (type_asks, body_lent)

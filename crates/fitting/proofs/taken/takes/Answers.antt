@@ -1,5 +1,5 @@
 -- By the kind of the node, and of the value where that decides.
-use Rattle.node_order.proofs.Splits.{body_lent}
+use Rattle.types.proofs.Lists.{body_lent}
 use Rattle.fitting.proofs.Held.{code_there, child_there, value_there, code_takes, list_refuses, set_refuses, list_asks, list_tells, sets_asked, set_tells}
 use Rattle.fitting.proofs.taken.takes.Goals as goal
 

@@ -1,14 +1,12 @@
-use Rattle.importing.proofs.FieldWords.{passed_start, passed_lacks, passed_more, passed_all}
+use mathlib.Core.Path.{◌≡◌, ◌∙◌}
+use borrow.Author.Rules.{rules}
+use Rattle.std.specs.List.{list_any}
+use Rattle.std.proofs.lemmas.Iterator.{YieldsList-from_slice}
+use Rattle.std.proofs.lemmas.Iterator.Search.{any_from_yields_List}
+use Rattle.importing.proofs.FieldWords.{is_lacking, any_lacking}
 use Rattle.importing.proofs.fields.lacks_one.Goals as goal
 
-pub loop-i-init : goal.loop-i-init
-loop-i-init c = search passed_start
-
-pub returns-then-mapped-eq0 : goal.returns-then-mapped-eq0
-returns-then-mapped-eq0 c = search passed_lacks
-
-pub loop-i-preserved : goal.loop-i-preserved
-loop-i-preserved c = passed_more c.loop-i.invariant c.loop-i-test.true c.mapped.ensures c.if-mapped-eq0.false
-
 pub returns : goal.returns
-returns c = search passed_all
+returns c =
+    let e : c.any.result ≡ list_any (is_lacking c.args.names.now) c.args.fields.now = any_from_yields_List _ c.any.new.self _ c.any.result c.any.ensures.ran (YieldsList-from_slice c.args.fields.now c.iter.ensures.rest) (λ x b q k. search rules) in
+    e ∙ any_lacking c.args.names.now c.args.fields.now

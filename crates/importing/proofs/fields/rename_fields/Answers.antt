@@ -1,17 +1,11 @@
-use Rattle.importing.proofs.FieldWords.{turn_start, turn_in, turn_known, turn_more, turn_done}
+use Rattle.importing.proofs.FieldWords.{turn_start, turn_known, turn_more, turn_done}
 use Rattle.importing.proofs.fields.rename_fields.Goals as goal
 
 pub loop-i-init : goal.loop-i-init
 loop-i-init c = search turn_start
 
-pub bounds-node-at : goal.bounds-node-at
-bounds-node-at c = search turn_in
-
 pub renamed_word-requires : goal.renamed_word-requires
 renamed_word-requires c = search turn_known
-
-pub bounds-node-at-in-loop-i : goal.bounds-node-at-in-loop-i
-bounds-node-at-in-loop-i c = search turn_in
 
 pub loop-i-preserved : goal.loop-i-preserved
 loop-i-preserved c = search turn_more

@@ -1,10 +1,6 @@
 -- The invariant: the first i fields are renamed.
-use Prim.Native.Nat.{◌-◌}
 use Rattle.importing.proofs.FieldWords.{Turn}
 use Rattle.importing.proofs.fields.rename_fields.Given as goal
 
 abbrev pub invariant-loop-i : goal.invariant-loop-i
 invariant-loop-i l = Turn l.names l.count l.initial.node l.node l.i
-
-abbrev pub decreases-loop-i : goal.decreases-loop-i
-decreases-loop-i l = l.count - l.i

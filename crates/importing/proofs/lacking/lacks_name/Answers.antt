@@ -1,4 +1,4 @@
-use Rattle.importing.proofs.Searching.{searching_start, searching_here, searching_long, searching_next, searching_found, searching_more, searching_done}
+use Rattle.importing.proofs.Searching.{searching_start, searching_here, searching_long, searching_found, searching_more, searching_done}
 use Rattle.importing.proofs.lacking.lacks_name.Goals as goal
 
 pub loop-n-init : goal.loop-n-init
@@ -12,9 +12,6 @@ lacks_met-requires-clause-names_len c = search searching_long
 
 pub returns-then-lacks_met : goal.returns-then-lacks_met
 returns-then-lacks_met c = search searching_found
-
-pub overflow_add-n : goal.overflow_add-n
-overflow_add-n c = search searching_next
 
 pub loop-n-preserved : goal.loop-n-preserved
 loop-n-preserved c = search searching_more

@@ -1,10 +1,6 @@
 -- The invariant: no node passed is reachable and carries a name that is lacking.
-use Prim.Native.Nat.{◌-◌}
 use Rattle.importing.proofs.Searching.{Searching}
 use Rattle.importing.proofs.lacking.lacks_name.Given as goal
 
 abbrev pub invariant-loop-n : goal.invariant-loop-n
 invariant-loop-n l = Searching l.names l.words l.starts l.c l.root l.met l.n
-
-abbrev pub decreases-loop-n : goal.decreases-loop-n
-decreases-loop-n l = l.c.nodes - l.n

@@ -1,5 +1,5 @@
 -- The cycle: the measure is three times the node's number, and then which part.
-use Prim.Native.Nat.{◌+◌, ◌-◌, ◌*◌}
+use Prim.Native.Nat.{◌+◌, ◌*◌}
 use Rattle.node_filter.specs.Inner.Filter.{CoversLent}
 use Rattle.recursion.proofs.Turns.{Turn}
 use Rattle.importing.specs.Import.{import_node as import-node-of}
@@ -18,6 +18,3 @@ decreases-import_uncached l = 3 * l.n + 1
 
 abbrev pub invariant-import_each-loop-i : goal.invariant-import_each-loop-i
 invariant-import_each-loop-i l = Turn (import-node-of (by_map l.names)) (Foreign l.names l.words l.starts l.c) l.initial.target_words l.initial.target_starts l.initial.last l.n l.initial.items l.count l.initial.cache l.target_words l.target_starts l.items l.cache l.last l.i × CoversLent l.target_words l.target_starts l.last l.filter × AllComplete l.names l.words l.starts l.c l.initial.items l.count
-
-abbrev pub decreases-import_each-loop-i : goal.decreases-import_each-loop-i
-decreases-import_each-loop-i l = l.count - l.i

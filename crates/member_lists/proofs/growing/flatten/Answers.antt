@@ -1,17 +1,18 @@
+use Rattle.types.proofs.Refusals.{passed}
 use Rattle.member_lists.proofs.Splices.{passed_start, passed_next, passed_full, passed_more, passed_done}
 use Rattle.member_lists.proofs.growing.flatten.Goals as goal
 
-pub loop-i-init : goal.loop-i-init
-loop-i-init c = search passed_start
+pub loop-n-init : goal.loop-n-init
+loop-n-init c = search passed_start
 
-pub splice-grown-requires : goal.splice-grown-requires
-splice-grown-requires c = search passed_next
+pub splice-requires : goal.splice-requires
+splice-requires c = search passed_next
 
-pub returns-in_default : goal.returns-in_default
-returns-in_default c = search passed_full
+pub returns-in_err-held : goal.returns-in_err-held
+returns-in_err-held c = rw (passed _ _ c.from_residual.ensures.1) (search (passed_full, c.in_err-held.ensures))
 
-pub loop-i-preserved : goal.loop-i-preserved
-loop-i-preserved c = search passed_more
+pub loop-n-preserved : goal.loop-n-preserved
+loop-n-preserved c = search (passed_more, c.in_ok-held.ensures)
 
 pub returns : goal.returns
 returns c = search passed_done

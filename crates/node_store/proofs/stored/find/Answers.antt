@@ -1,11 +1,8 @@
-use Rattle.node_store.proofs.Searches.{seek_start, seek_done, seek_in, seek_more, seek_hit}
+use Rattle.node_store.proofs.Searches.{seek_start, seek_done, seek_more, seek_hit}
 use Rattle.node_store.proofs.stored.find.Goals as goal
 
 pub loop-i-init : goal.loop-i-init
 loop-i-init c = search seek_start
-
-pub is_there-requires : goal.is_there-requires
-is_there-requires c = search seek_in
 
 pub returns-then-is_there : goal.returns-then-is_there
 returns-then-is_there c = search seek_hit

@@ -4,6 +4,3 @@ use Rattle.node_store.proofs.stored.find.Given as goal
 
 abbrev pub invariant-loop-i : goal.invariant-loop-i
 invariant-loop-i l = Seeks l.words l.starts l.c l.node l.i
-
-abbrev pub decreases-loop-i : goal.decreases-loop-i
-decreases-loop-i l = l.i

@@ -1,5 +1,6 @@
 -- A node with another head is another node; with the same head all its words are compared.
-use Rattle.node_store.proofs.Stretches.{in_starts, start_fits, in_words, head_fits, other_head, same_node}
+use Rattle.types.proofs.Tests.{numbers_eq}
+use Rattle.node_store.proofs.Stretches.{in_starts, start_fits, in_words, other_head, same_node}
 use Rattle.node_store.proofs.stored.is_there.Goals as goal
 
 pub offset_bounds-starts-n : goal.offset_bounds-starts-n
@@ -8,9 +9,6 @@ offset_bounds-starts-n c = search start_fits
 pub bounds-starts-n : goal.bounds-starts-n
 bounds-starts-n c = search in_starts
 
-pub offset_bounds-words-at : goal.offset_bounds-words-at
-offset_bounds-words-at c = search head_fits
-
 pub bounds-words-at : goal.bounds-words-at
 bounds-words-at c = search in_words
 
@@ -18,4 +16,4 @@ pub returns-then-words-at : goal.returns-then-words-at
 returns-then-words-at c = search other_head
 
 pub returns : goal.returns
-returns c = search same_node
+returns c = search (same_node, numbers_eq)

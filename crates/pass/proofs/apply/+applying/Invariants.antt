@@ -1,5 +1,5 @@
 -- The cycle: the measure is four times the node's number, and then which half.
-use Prim.Native.Nat.{◌+◌, ◌-◌, ◌*◌}
+use Prim.Native.Nat.{◌+◌, ◌*◌}
 use Rattle.pass.proofs.Turns.{Turn}
 use Rattle.node_filter.specs.Inner.Filter.{CoversLent}
 use Rattle.pass.proofs.apply.+applying.Given as goal
@@ -18,6 +18,3 @@ decreases-apply_simplification_uncached l = 4 * l.n + 2
 
 abbrev pub invariant-apply_each-loop-i : goal.invariant-apply_each-loop-i
 invariant-apply_each-loop-i l = Turn l.initial.words l.initial.starts l.initial.last l.n l.initial.items l.count l.removable l.keep l.initial.dropped l.initial.kept l.words l.starts l.items l.dropped l.kept l.last l.i × CoversLent l.words l.starts l.last l.filter
-
-abbrev pub decreases-apply_each-loop-i : goal.decreases-apply_each-loop-i
-decreases-apply_each-loop-i l = l.count - l.i

@@ -1,13 +1,14 @@
 -- 1 and 2 are the verdict's; what follows them is that of `shares_in`.
+use Rattle.types.proofs.Refusals.{passed_on}
 use Rattle.walks.proofs.Asking.{ask_refused, ask_done}
 use Rattle.soundness.proofs.Verdicts.{lent_known}
 use Rattle.questions.proofs.lambdas.has_shared_tyvar_across_lambda_params.Goals as goal
 
 pub shares_in-requires : goal.shares_in-requires
-shares_in-requires c = search lent_known
+shares_in-requires c = search (lent_known, c.in_ok-judge.ensures)
 
-pub returns-in-Names : goal.returns-in-Names
-returns-in-Names c = search ask_done
+pub returns : goal.returns
+returns c = search (ask_done, c.in_ok-judge.ensures)
 
-pub returns-in-Refused : goal.returns-in-Refused
-returns-in-Refused c = search ask_refused
+pub returns-in_err-judge : goal.returns-in_err-judge
+returns-in_err-judge c = passed_on c.from_residual.ensures.1 (ask_refused _ _ _ _ _ _ c.in_err-judge.ensures)

@@ -1,20 +1,14 @@
-use Rattle.questions.proofs.Sharing.{sharing_start, sharing_here, sharing_next, sharing_row, sharing_found, sharing_more, sharing_done}
+use Rattle.questions.proofs.Sharing.{sharing_start, sharing_row, sharing_found, sharing_more, sharing_done}
 use Rattle.questions.proofs.lambdas.shares.Goals as goal
 
 pub loop-n-init : goal.loop-n-init
 loop-n-init c = search sharing_start
-
-pub met_param-param-requires : goal.met_param-param-requires
-met_param-param-requires c = search sharing_here
 
 pub seen_before-requires : goal.seen_before-requires
 seen_before-requires c = search sharing_row
 
 pub returns-then-seen_before : goal.returns-then-seen_before
 returns-then-seen_before c = search sharing_found
-
-pub overflow_add-n : goal.overflow_add-n
-overflow_add-n c = search sharing_next
 
 pub loop-n-preserved : goal.loop-n-preserved
 loop-n-preserved c = search sharing_more

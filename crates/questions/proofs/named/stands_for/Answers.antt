@@ -1,11 +1,5 @@
-use Rattle.questions.proofs.NameWalks.{down_start, down_parent, down_less, down_range, down_more, down_done}
+use Rattle.questions.proofs.NameWalks.{down_less, down_range, down_more, down_done}
 use Rattle.questions.proofs.named.stands_for.Goals as goal
-
-pub loop-kind-init : goal.loop-kind-init
-loop-kind-init c = search down_start
-
-pub first_child-n-requires : goal.first_child-n-requires
-first_child-n-requires c = search down_parent
 
 pub kind_at-kind-requires-in-loop-kind : goal.kind_at-kind-requires-in-loop-kind
 kind_at-kind-requires-in-loop-kind c = down_range c.loop-kind.invariant c.loop-kind-test.true c.first_child-n.ensures

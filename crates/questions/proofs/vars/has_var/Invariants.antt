@@ -1,10 +1,6 @@
 -- The invariant: the set is right for the nodes passed, and has no other.
-use Prim.Native.Nat.{◌-◌}
 use Rattle.questions.proofs.VarWalks.{Knowing}
 use Rattle.questions.proofs.vars.has_var.Given as goal
 
 abbrev pub invariant-loop-n : goal.invariant-loop-n
 invariant-loop-n l = Knowing l.words l.starts l.c l.skip l.root l.met l.n
-
-abbrev pub decreases-loop-n : goal.decreases-loop-n
-decreases-loop-n l = l.root - l.n

@@ -1,8 +1,5 @@
-use Rattle.questions.proofs.VarWalks.{looking_start, looking_small, looking_found, looking_more, looking_done}
+use Rattle.questions.proofs.VarWalks.{looking_small, looking_found, looking_more, looking_done}
 use Rattle.questions.proofs.vars.some_child.Goals as goal
-
-pub loop-i-init : goal.loop-i-init
-loop-i-init c = search looking_start
 
 pub test-requires : goal.test-requires
 test-requires c = search looking_small

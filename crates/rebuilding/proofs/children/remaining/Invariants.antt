@@ -1,11 +1,6 @@
--- The invariant: of i children, those that remain are listed.
-use Prim.Native.Nat.{◌-◌}
-use lib.ListN.{length}
+-- The invariant: of the children passed, those that remain are listed.
 use Rattle.rebuilding.proofs.Copying.{Copied}
 use Rattle.rebuilding.proofs.children.remaining.Given as goal
 
-abbrev pub invariant-loop-i : goal.invariant-loop-i
-invariant-loop-i l = Copied l.words l.starts l.c l.n l.removable l.keep l.body l.items l.count l.i
-
-abbrev pub decreases-loop-i : goal.decreases-loop-i
-decreases-loop-i l = length l.body - l.i
+abbrev pub invariant-loop-word : goal.invariant-loop-word
+invariant-loop-word l = Copied l.words l.starts l.c l.n l.removable l.keep l.body l.items l.count l.word-index

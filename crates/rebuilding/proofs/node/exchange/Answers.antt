@@ -1,4 +1,4 @@
-use Rattle.rebuilding.proofs.Exchanging.{head_there, exchange_start, word_in, item_in, item_low, exchange_more, exchange_done}
+use Rattle.rebuilding.proofs.Exchanging.{head_there, exchange_start, word_in, item_low, exchange_more, exchange_done}
 use borrow.Author.Rules.{rules}
 use Rattle.rebuilding.proofs.node.exchange.Goals as goal
 
@@ -17,14 +17,8 @@ loop-i-init c = search exchange_start
 pub bounds-body-i : goal.bounds-body-i
 bounds-body-i c = search word_in
 
-pub bounds-items-i : goal.bounds-items-i
-bounds-items-i c = search item_in
-
 pub with_child-requires : goal.with_child-requires
 with_child-requires c = search item_low
-
-pub bounds-new-at : goal.bounds-new-at
-bounds-new-at c = search (item_in, rules)
 
 pub loop-i-preserved : goal.loop-i-preserved
 loop-i-preserved c = search exchange_more

@@ -1,5 +1,5 @@
 -- The cycle: the measure is three times the node's number, and then which half.
-use Prim.Native.Nat.{◌+◌, ◌-◌, ◌*◌}
+use Prim.Native.Nat.{◌+◌, ◌*◌}
 use Rattle.node_filter.specs.Inner.Filter.{CoversLent}
 use Rattle.recursion.proofs.Turns.{Turn}
 use Rattle.renumbering.specs.Renumbered.{renumbered}
@@ -17,6 +17,3 @@ decreases-renumber_uncached l = 3 * l.n + 1
 
 abbrev pub invariant-renumber_each-loop-i : goal.invariant-renumber_each-loop-i
 invariant-renumber_each-loop-i l = Turn (renumbered l.vars) (Numbered l.vars) l.initial.words l.initial.starts l.initial.last l.n l.initial.items l.count l.initial.cache l.words l.starts l.items l.cache l.last l.i × CoversLent l.words l.starts l.last l.filter
-
-abbrev pub decreases-renumber_each-loop-i : goal.decreases-renumber_each-loop-i
-decreases-renumber_each-loop-i l = l.count - l.i

@@ -1,4 +1,4 @@
--- Two bytes, the first of which counts 256 times.
+-- The bytes of the number, the most significant first.
 use Rattle.sheet_reading.proofs.Numbers.{short_is}
 use Rattle.sheet_reading.proofs.bytes.short.Goals as goal
 

@@ -1,4 +1,4 @@
--- Two halves, the first of which counts 65,536 times.
+-- The bytes of the number, the most significant first.
 use Rattle.sheet_reading.proofs.Numbers.{word_is}
 use Rattle.sheet_reading.proofs.bytes.word.Goals as goal
 

@@ -1,17 +1,18 @@
+use Rattle.types.proofs.Refusals.{passed}
 use Rattle.sheet_reading.proofs.Tabling.{turn_start, turn_here, turn_stop, turn_more, turn_done}
 use Rattle.sheet_reading.proofs.table.read_names.Goals as goal
 
-pub loop-left-init : goal.loop-left-init
-loop-left-init c = search turn_start
+pub loop-init : goal.loop-init
+loop-init c = search turn_start
 
-pub read_name-next-requires : goal.read_name-next-requires
-read_name-next-requires c = search turn_here
+pub read_name-requires : goal.read_name-requires
+read_name-requires c = search turn_here
 
-pub returns-in_default : goal.returns-in_default
-returns-in_default c = search turn_stop
+pub returns-in_err-end : goal.returns-in_err-end
+returns-in_err-end c = rw (passed _ _ c.from_residual.ensures.1) (search (turn_stop, c.in_err-end.ensures))
 
-pub loop-left-preserved : goal.loop-left-preserved
-loop-left-preserved c = search turn_more
+pub loop-preserved : goal.loop-preserved
+loop-preserved c = search (turn_more, c.in_ok-end.ensures)
 
 pub returns : goal.returns
 returns c = search turn_done

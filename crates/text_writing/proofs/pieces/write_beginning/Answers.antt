@@ -12,40 +12,40 @@ slice_bounds-body-count c = search (head_there, rules)
 pub slice_bounds-body-start : goal.slice_bounds-body-start
 slice_bounds-body-start c = search (head_there, rules)
 
-pub returns-then-kind-eq-BOTTOM : goal.returns-then-kind-eq-BOTTOM
+pub returns-in-0 : goal.returns-in-0
 unfolding beginning tag_of_in
-returns-then-kind-eq-BOTTOM c = search (begins kinds.bottom)
+returns-in-0 c = search (begins kinds.bottom)
 
-pub returns-then-kind-eq-TOP : goal.returns-then-kind-eq-TOP
+pub returns-in-1 : goal.returns-in-1
 unfolding beginning tag_of_in
-returns-then-kind-eq-TOP c = search (begins kinds.top)
+returns-in-1 c = search (begins kinds.top)
 
 pub write_short-requires : goal.write_short-requires
 write_short-requires c = search short_fits
 
-pub returns-then-kind-eq-PRIMITIVE : goal.returns-then-kind-eq-PRIMITIVE
-returns-then-kind-eq-PRIMITIVE c = search begins_primitive
+pub returns-in-2 : goal.returns-in-2
+returns-in-2 c = search begins_primitive
 
-pub write_short-requires-then-kind-eq-TY_VAR : goal.write_short-requires-then-kind-eq-TY_VAR
-write_short-requires-then-kind-eq-TY_VAR c = search short_fits
+pub write_short-requires-in-3 : goal.write_short-requires-in-3
+write_short-requires-in-3 c = search short_fits
 
-pub returns-then-kind-eq-TY_VAR : goal.returns-then-kind-eq-TY_VAR
-returns-then-kind-eq-TY_VAR c = search begins_var
+pub returns-in-3 : goal.returns-in-3
+returns-in-3 c = search begins_var
 
-pub returns-then-kind-eq-LIST : goal.returns-then-kind-eq-LIST
+pub returns-in-4 : goal.returns-in-4
 unfolding beginning tag_of_in
-returns-then-kind-eq-LIST c = search (begins kinds.list)
+returns-in-4 c = search (begins kinds.list)
 
-pub returns-then-kind-eq-ATTR_SET : goal.returns-then-kind-eq-ATTR_SET
+pub returns-in-6 : goal.returns-in-6
 unfolding beginning tag_of_in
-returns-then-kind-eq-ATTR_SET c = search (begins kinds.attr_set)
+returns-in-6 c = search (begins kinds.attr_set)
 
-pub returns-then-kind-eq-NAMED : goal.returns-then-kind-eq-NAMED
-returns-then-kind-eq-NAMED c = search begins_name
+pub returns-in-9 : goal.returns-in-9
+returns-in-9 c = search begins_name
 
-pub returns-then-kind-eq-NEG : goal.returns-then-kind-eq-NEG
+pub returns-in-10 : goal.returns-in-10
 unfolding beginning tag_of_in
-returns-then-kind-eq-NEG c = search (begins kinds.neg)
+returns-in-10 c = search (begins kinds.neg)
 
-pub returns : goal.returns
-returns c = search begins_not
+pub returns-in_default : goal.returns-in_default
+returns-in_default c = search begins_not

@@ -5,21 +5,21 @@ use Rattle.text_writing.specs.Text.{separator}
 use Rattle.text_writing.proofs.NodePieces.{separates, separates_not}
 use Rattle.text_writing.proofs.pieces.write_separator.Goals as goal
 
-pub returns-then-kind-eq-LAMBDA : goal.returns-then-kind-eq-LAMBDA
+pub returns-in-5 : goal.returns-in-5
 unfolding separator tag_of_in
-returns-then-kind-eq-LAMBDA c = search (separates kinds.lambda)
+returns-in-5 c = search (separates kinds.lambda)
 
-pub returns-then-kind-eq-ATTR_SET : goal.returns-then-kind-eq-ATTR_SET
+pub returns-in-6 : goal.returns-in-6
 unfolding separator tag_of_in
-returns-then-kind-eq-ATTR_SET c = search (separates kinds.attr_set)
+returns-in-6 c = search (separates kinds.attr_set)
 
-pub returns-then-kind-eq-UNION : goal.returns-then-kind-eq-UNION
+pub returns-in-7 : goal.returns-in-7
 unfolding separator tag_of_in
-returns-then-kind-eq-UNION c = search (separates kinds.union)
+returns-in-7 c = search (separates kinds.union)
 
-pub returns-then-kind-eq-INTERSECTION : goal.returns-then-kind-eq-INTERSECTION
+pub returns-in-8 : goal.returns-in-8
 unfolding separator tag_of_in
-returns-then-kind-eq-INTERSECTION c = search (separates kinds.intersection)
+returns-in-8 c = search (separates kinds.intersection)
 
-pub returns : goal.returns
-returns c = search separates_not
+pub returns-in_default : goal.returns-in_default
+returns-in_default c = search separates_not

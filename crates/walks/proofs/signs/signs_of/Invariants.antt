@@ -4,6 +4,3 @@ use Rattle.walks.proofs.signs.signs_of.Given as goal
 
 abbrev pub invariant-loop-n : goal.invariant-loop-n
 invariant-loop-n l = Sweep l.words l.starts l.c l.root l.positive l.negative l.n
-
-abbrev pub decreases-loop-n : goal.decreases-loop-n
-decreases-loop-n l = l.n

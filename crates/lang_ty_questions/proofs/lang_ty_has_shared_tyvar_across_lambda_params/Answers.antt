@@ -1,7 +1,0 @@
--- What `tell_asked` says of the answer, and the answer is the defined one.
-use Rattle.words.specs.Words.{bit}
-use Rattle.lang_ty_questions.proofs.Asked.{tell_equal}
-use Rattle.lang_ty_questions.proofs.lang_ty_has_shared_tyvar_across_lambda_params.Goals as goal
-
-pub returns : goal.returns
-returns c = search (tell_equal bit)
