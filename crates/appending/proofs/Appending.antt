@@ -5,10 +5,9 @@ use mathlib.Core.Bool.{Bool, true, false}
 use mathlib.Core.List.{List, [], ◌++◌, append_assoc}
 use native.Mathlib.Omega.{arith}
 use native.Mathlib.Decide.{dec_le}
-use lib.ListN.{length, take, drop, length-append}
-use lib.Seq.{paste, paste-zero, length-paste, take-paste, drop-paste, drop-drop, take-length}
-use borrow.Rule.Slice.PartMut.{put_mid}
-use Rattle.std.proofs.lemmas.Slice.{put_mid-paste}
+use native.Mathlib.Numerals.{add-one}
+use lib.ListN.{length, get_or, take, drop, set, length-set, length-append}
+use lib.Seq.{paste, paste-zero, paste-suc, take-paste, drop-paste, drop-drop, take-length}
 use Rattle.appending.specs.Parts.{when, between}
 use Rattle.appending.specs.Inner.{Writes}
 
@@ -98,8 +97,26 @@ module _ {b : List ℕ} {c : ℕ} (x : List ℕ) (i : ℕ) where
   pub writes_later : (i ≡ 0 → ⊥) → {b' : List ℕ} {e : ℕ} → Writes b c x b' e → Writes b c (between x i) b' e
   writes_later f {b'} {e} W = subst (λ (y : List ℕ). Writes b c y b' e) (later x i f) W
 
--- ---- the bytes copied into the stretch of k bytes from c on
-pub writes_copied : (b x : List ℕ) (c k : ℕ) {y : List ℕ} → c ≤ length b → length x ≤ length b - c → k ≡ length x → y ≡ x → Writes b c x (put_mid c k b y) (c + length x)
-writes_copied b x c k {y} h l e f =
-    let p : put_mid c k b y ≡ paste b c x (length x) = put_mid-paste c k b y x (length x) f (sym e) refl in
-    record { long = ap length p ∙ length-paste b c x (length x) (omega arith) (omega arith); put = λ g. p; fits = λ g. refl; full = λ g. absurd (omega arith) }
+-- ---- i bytes copied so far
+pub record Copying (b : List ℕ) (c : ℕ) (x b' : List ℕ) (i : ℕ) : Type 0 where
+  pub room : c + length x ≤ length b
+  pub high : i ≤ length x
+  pub long : length b' ≡ length b
+  pub is : b' ≡ paste b c x i
+
+module _ {b x : List ℕ} {c : ℕ} where
+  pub copying_start : c ≤ length b → length x ≤ length b - c → Copying b c x b 0
+  copying_start h k = record { room = omega arith; high = omega arith; long = refl; is = paste-zero b c x }
+
+  pub copying_more : {b' : List ℕ} {i : ℕ} → Copying b c x b' i → i < length x → Copying b c x (set b' (c + i) (get_or x i 0)) (i + 1)
+  copying_more {b'} {i} C h = record {
+    room = C.room;
+    high = omega arith;
+    long = length-set b' (c + i) (get_or x i 0) ∙ C.long;
+    is = ap (λ (l : List ℕ). set l (c + i) (get_or x i 0)) C.is ∙ paste-suc b c x i 0 (omega (arith, C.room)) h ∙ ap (paste b c x) (sym (add-one i));
+  }
+
+  pub copying_done : {b' : List ℕ} {i : ℕ} → Copying b c x b' i → length x ≤ i → Writes b c x b' (c + length x)
+  copying_done {i = i} C h =
+      let e : i ≡ length x = omega (arith, C.high) in
+      record { long = C.long; put = λ k. C.is ∙ ap (paste b c x) e; fits = λ k. refl; full = λ k. absurd (omega (arith, C.room)) }

@@ -1,20 +1,21 @@
 -- Two field words, and as many of them, are the same by a map of names: by their marks and then by the map, one after another. The fields of two nodes so are spelt the same, and no others are.
-use Prim.Native.Nat.{ℕ, zero, suc, ◌+◌, ◌<◌, ◌≤◌}
+use Prim.Native.Nat.{ℕ, ◌+◌, ◌<◌, ◌≤◌}
 use mathlib.Core.Path.{◌≡◌, refl, sym, ap, ap₂, ◌∙◌}
 use mathlib.Core.Bool.{Bool, true, false, not, ◌&&◌, beq}
 use mathlib.Core.List.{List, [], ◌∷◌, map}
+use native.Mathlib.Numerals.{add-one}
 use native.Mathlib.Omega.{arith}
 use mir.Syntax.{w64}
 use mir.Val.{Fits}
-use lib.ListN.{length, get_or, get_or-eq_default}
+use lib.ListN.{length, get_or, drop, drop_of_length-le, get_or-eq_default}
+use lib.Seq.{drop-cons}
 use lib.Dec.{eqb}
 use borrow.Author.Tests.{eqb-true, eq-eqb, ne_eqb, not-true as negated, not-false}
-use Rattle.std.specs.Prelude.{IsTrue, ◌↔◌, EachIndex}
 use Rattle.words.specs.declared.Layout.TheVariants as layout
 use Rattle.words.specs.Words.{field_optional, field_name}
 use Rattle.words.proofs.Words.{field_bounded}
 use Rattle.types.specs.Node.{field_of, field_names, below}
-use Rattle.types.proofs.Tests.{true_false, and_true, both, not_true}
+use Rattle.types.proofs.Tests.{true_false, and_true, both}
 use Rattle.types.proofs.Lists.{below_cons}
 use Rattle.types.proofs.Nodes.{cons}
 use Rattle.names.specs.Table.{Name}
@@ -57,23 +58,32 @@ pub name_next : (w : ℕ) {j : ℕ} → j ≡ field_name w → Fits w64 (j + 1)
 name_next w e = omega (arith, e, (field_bounded layout.New w).few_names)
 
 -- ---- as many of each
-same_by : (ks e f : List ℕ) → length e ≡ length f → ((i : ℕ) → i < length e → same_field ks (get_or e i 0) (get_or f i 0) ≡ true) → same_fields ks e f ≡ true
-unfolding same_fields
-same_by ks [] [] l g = refl
-same_by ks [] (w ∷ f) l g = absurd (omega (arith, l))
-same_by ks (v ∷ e) [] l g = absurd (omega (arith, l))
-same_by ks (v ∷ e) (w ∷ f) l g = both (g 0 (omega arith)) (same_by ks e f (omega (arith, l)) (λ i h. g (suc i) (omega arith)))
+-- the words passed are the same, so the rests decide
+pub record Same_so_far (ks e f : List ℕ) (i : ℕ) : Type 0 where
+  pub long : length e ≡ length f
+  pub high : i ≤ length e
+  pub rest : same_fields ks e f ≡ same_fields ks (drop i e) (drop i f)
 
-same_at : (ks e f : List ℕ) → same_fields ks e f ≡ true → (i : ℕ) → i < length e → same_field ks (get_or e i 0) (get_or f i 0) ≡ true
-unfolding same_fields
-same_at ks [] f p i h = absurd (omega arith)
-same_at ks (v ∷ e) [] p i h = absurd (true_false (sym p))
-same_at ks (v ∷ e) (w ∷ f) p zero h = (and_true (same_field ks v w) (same_fields ks e f) p).0
-same_at ks (v ∷ e) (w ∷ f) p (suc i) h = same_at ks e f (and_true (same_field ks v w) (same_fields ks e f) p).1 i (omega arith)
+module _ {ks e f : List ℕ} where
+  pub fields_start : length e ≡ length f → Same_so_far ks e f 0
+  fields_start h = record { long = h; high = omega arith; rest = refl }
 
-pub all_same : (ks e f : List ℕ) (r : Bool) → length e ≡ length f → (IsTrue r ↔ EachIndex e (λ i. same_field ks (get_or e i 0) (get_or f i 0) ≡ true)) → r ≡ same_fields ks e f
-all_same ks e f true l g = sym (same_by ks e f l (g.0 refl))
-all_same ks e f false l g = sym (not_true (same_fields ks e f) (λ p. true_false (sym (g.1 (same_at ks e f p)))))
+  module _ {i : ℕ} (S : Same_so_far ks e f i) where
+    next : i < length e → {b : Bool} → b ≡ same_field ks (get_or e i 0) (get_or f i 0) → same_fields ks e f ≡ (b && same_fields ks (drop (i + 1) e) (drop (i + 1) f))
+    unfolding same_fields
+    next h q =
+        S.rest ∙ ap₂ (same_fields ks) (drop-cons e i 0 h) (drop-cons f i 0 (omega (arith, S.long)))
+        ∙ ap₂ (λ (x : Bool) (k : ℕ). x && same_fields ks (drop k e) (drop k f)) (sym q) (sym (add-one i))
+
+    pub fields_other : i < length e → {b : Bool} → b ≡ same_field ks (get_or e i 0) (get_or f i 0) → not b ≡ true → false ≡ same_fields ks e f
+    fields_other h {b} q r = sym (next h q ∙ rw (negated b r))
+
+    pub fields_more : i < length e → {b : Bool} → b ≡ same_field ks (get_or e i 0) (get_or f i 0) → not b ≡ false → Same_so_far ks e f (i + 1)
+    fields_more h {b} q r = record { long = S.long; high = omega arith; rest = next h q ∙ rw (not-false b r) }
+
+    pub fields_done : length e ≤ i → true ≡ same_fields ks e f
+    unfolding same_fields
+    fields_done h = sym (S.rest ∙ ap₂ (same_fields ks) (drop_of_length-le e h) (drop_of_length-le f {i = i} (omega (arith, S.long))))
 
 -- ---- the fields of two nodes
 module _ {ns ms : List Name} {ks : List ℕ} (M : Matches ns ms ks) where

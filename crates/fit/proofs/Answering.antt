@@ -12,6 +12,7 @@ use Rattle.words.specs.declared.Layout.TheVariants as layout
 use Rattle.std.specs.Prelude.{Ok, Err}
 use Rattle.types.specs.declared.refusal.Refusal.{Refusal}
 use Rattle.types.specs.declared.refusal.Refusal.TheVariants as refusal
+use Rattle.types.specs.Refusal.{number_of}
 use Rattle.types.specs.Out.{Out, ◌>>=◌}
 use Rattle.types.specs.Bytes.{bytes}
 use Rattle.types.specs.Reply.{judged}
@@ -147,9 +148,9 @@ module _ {b b' : List ℕ} {r : ℕ} {a : Out Bool} where
   line_as : {z : Out Bool} → a ≡ z → length (answer_line z) ≤ 19 → Writes b 0 (answer_line z) b' r → WritesAnswer b a b' r
   line_as {z} e h W = subst (λ (y : Out Bool). WritesAnswer b y b' r) (sym e) (record { is = W; few = h })
 
-  pub refusal_line : {e : Refusal} → a ≡ Err e → Writes b 0 (refused_line e) b' r → WritesAnswer b a b' r
+  pub refusal_line : {e : Refusal} {m : ℕ} → a ≡ Err e → m ≡ number_of e → Writes b 0 (refused_line m) b' r → WritesAnswer b a b' r
   unfolding answer_line
-  refusal_line {e} q W = line_as q (refused_length e) W
+  refusal_line {e} q n W = line_as q (refused_length e) (subst (λ (k : ℕ). Writes b 0 (refused_line k) b' r) n W)
 
   pub yes_line : {x : Bool} → a ≡ Ok x → x ≡ true → Writes b 0 (bytes "yes\n") b' r → WritesAnswer b a b' r
   unfolding answer_line

@@ -2,6 +2,7 @@
 -- significant byte first.
 use Rattle.std.specs.Prelude.{ℕ, ◌*◌, ◌/◌, ◌%◌, ◌≤◌, ◌≡◌, Bool, true, false, List, ◌++◌, length, drop, eqb, leb, Ok, Err}
 use Rattle.types.specs.declared.refusal.Refusal.TheVariants as refusal
+use Rattle.types.specs.Refusal.{number_of}
 use Rattle.types.specs.Out.{Out, ◌>>=◌}
 use Rattle.types.specs.Bytes.{bytes}
 use Rattle.sheet_reading.specs.Sheet.{Sheet, several, number, words, read_sheet, read_sheet_in}
@@ -39,7 +40,7 @@ unfoldable pub answer_line : Out Bool → List ℕ
 unfolding refused_line
 answer_line (Ok true) = bytes "yes\n"
 answer_line (Ok false) = bytes "no\n"
-answer_line (Err e) = refused_line e
+answer_line (Err e) = refused_line (number_of e)
 
 unfoldable pub fit_line : List ℕ → List ℕ
 unfolding answer_line fit_answer

@@ -88,7 +88,7 @@ fn write_answer(line: &mut [u8], answer: Result<bool, Refusal>) -> usize
     match answer {
         Ok(true) => append(line, 0, b"yes\n"),
         Ok(false) => append(line, 0, b"no\n"),
-        Err(refusal) => write_refusal(line, refusal),
+        Err(refusal) => write_refusal(line, refusal.number()),
     }
 }
 

@@ -37,7 +37,7 @@ pub record Behind (ws : List ℕ) (at values : ℕ) : Type 0 where
 abbrev pub span : List ℕ → ℕ → ℕ
 span ws at = suc (head_count (get_or ws at 0))
 
--- r is how many words the value at this place takes, or 0 where none stands there
+-- r is how many words the value at this place takes, or `None` where none stands there
 pub record NextValue (table values : ℕ) (ws : List ℕ) (at : ℕ) (r : Option ℕ) : Type 0 where
   pub found : (n : ℕ) → r ≡ Some n → (n ≡ span ws at) × ((n ≤ length (drop at ws)) × (is_value table values (take (span ws at) (drop at ws)) ≡ true))
   pub missing : r ≡ None → is_value table values (take (span ws at) (drop at ws)) ≡ false

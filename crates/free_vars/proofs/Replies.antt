@@ -21,6 +21,7 @@ use Rattle.walks.specs.Asked.{asking, ask_reply}
 use Rattle.walks.specs.Inner.Asked.{Says, Answers}
 use Rattle.walks.proofs.Asking.{root_out, root_in, ask_refused, ask_done}
 use Rattle.free_vars.specs.FreeVars.{contains, free_list, distinct}
+use Rattle.free_vars.specs.Theorems.{AnsweredOut}
 use Rattle.free_vars.specs.Inner.{Listing, Collecting, Collects, Lists, ListsIn}
 use Rattle.free_vars.specs.declared.VarList.{VarList}
 
@@ -77,3 +78,8 @@ list_given L = L.is
 
 pub none_given : {o : Out VarList} {vars vars' : List ℕ} {e : Refusal} → Lists o vars vars' (Err e) → Err e ≡ o
 none_given L = L.is
+
+-- ---- an answer read back
+pub answered_out : AnsweredOut
+answered_out vars (Ok l) = refl
+answered_out vars (Err e) = refl

@@ -1,6 +1,7 @@
 -- The variables of the type of a root, each once, in the order in which a walk from left to right first meets them (01, "arena").
-use Rattle.std.specs.Prelude.{ℕ, Bool, true, false, ◌||◌, not, ◌&&◌, length, eqb}
+use Rattle.std.specs.Prelude.{ℕ, Bool, true, false, ◌||◌, not, ◌&&◌, length, eqb, Ok, Err}
 use mathlib.Core.List.{List, [], ◌∷◌, ◌++◌, foldl, flatten}
+use Rattle.types.specs.Out.{Out}
 use Rattle.types.specs.Node.{Tag, members, bound, var, neg, form}
 use Rattle.types.specs.Arena.{Arena, fold}
 use Rattle.types.specs.Memory.{padded}
@@ -44,6 +45,17 @@ free_type_vars a root = add_all [] (occurrences a root)
 unfoldable pub free_list : Arena → ℕ → VarList
 unfolding free_type_vars
 free_list a root = record { vars = padded 4096 (free_type_vars a root); count = length (free_type_vars a root) }
+
+-- the cases of an answer, with the array that is lent: the variables listed there; a refusal
+abbrev pub lent_out : Out ℕ → List ℕ → Out VarList
+lent_out (Ok n) vars = Ok (record { vars = vars; count = n })
+lent_out (Err e) vars = Err e
+
+-- the answer, with the array it leaves, that says this and no more: a refusal leaves the array. `lent_out` reads it back: the theorem
+-- `AnsweredOut`
+abbrev pub answered : List ℕ → Out VarList → Out ℕ × List ℕ
+answered vars (Ok l) = (Ok l.count, l.vars)
+answered vars (Err e) = (Err e, vars)
 
 -- is no variable there twice?
 unfoldable pub distinct : List ℕ → Bool

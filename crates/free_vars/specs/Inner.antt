@@ -1,5 +1,5 @@
 -- What the walk that collects the variables asks and answers, and what is left where they are lent.
-use Rattle.std.specs.Prelude.{ℕ, ◌+◌, ◌<◌, ◌≡◌, true, List, length, get_or, set, Ok, Err}
+use Rattle.std.specs.Prelude.{ℕ, ◌+◌, ◌<◌, ◌≡◌, true, List, length, get_or, set, Err}
 use Rattle.types.specs.Out.{Out}
 use Rattle.types.specs.Node.{var, tag}
 use Rattle.types.specs.Arena.{Arena, at}
@@ -10,7 +10,7 @@ use Rattle.bits.specs.Inner.{Row}
 use Rattle.types.specs.declared.refusal.Refusal.{Refusal}
 use Rattle.node_store.specs.Inner.Stored.{Lent}
 use Rattle.walks.specs.Asked.{asking}
-use Rattle.free_vars.specs.FreeVars.{occurrences, contains, add_all, distinct, free_list}
+use Rattle.free_vars.specs.FreeVars.{occurrences, contains, add_all, distinct, free_list, lent_out}
 use Rattle.free_vars.specs.declared.VarList.{VarList}
 
 -- the list has every variable of node n
@@ -62,11 +62,6 @@ pub record Collects (w s : List ℕ) (c : Counters) (n : ℕ) (done vars : List 
     (count' : ℕ) : Type 0 where
   pub is : (table : ℕ) (a : Arena) → Holds table w s c a → (l : List ℕ) → Listing a done vars count l
       → Listing a done' vars' count' (add_all l (occurrences a n))
-
--- the enum's cases, with the array that is lent: the variables listed there; the number of a refusal
-abbrev pub lent_out : Out ℕ → List ℕ → Out VarList
-lent_out (Ok n) vars = Ok (record { vars = vars; count = n })
-lent_out (Err e) vars = Err e
 
 -- they say o, and a refusal leaves the array
 pub record Lists (o : Out VarList) (vars vars' : List ℕ) (r : Out ℕ) : Type 0 where

@@ -8,9 +8,7 @@ use native.Mathlib.Omega.{arith}
 use mir.Syntax.{w32}
 use mir.Val.{Fits}
 use lib.ListN.{length, set}
-use borrow.Rule.Slice.PartMut.{put_mid}
 use lib.Seq.{paste}
-use Rattle.std.proofs.lemmas.Slice.{put_mid-paste}
 use lib.Dec.{leb}
 use borrow.Author.Tests.{le-leb, leb-true}
 use Rattle.std.specs.Prelude as std
@@ -28,7 +26,7 @@ use Rattle.types.proofs.Decodes.{well_parts, Faultless, faultless}
 use Rattle.types.proofs.Sound.{find_at}
 use Rattle.types.proofs.Addresses.{word_room, start_room, words_more, starts_more, flat_more}
 use Rattle.node_store.specs.Inner.Stored.{Searched, FoundIn}
-use Rattle.node_store.specs.Inner.Added.{Fresh, Absent, Interns, Under}
+use Rattle.node_store.specs.Inner.Added.{Room, Pasted, Fresh, Absent, Interns, Under}
 use Rattle.node_store.specs.Intern.{has_room, intern}
 
 -- ---- the three outcomes
@@ -75,6 +73,9 @@ module _ {w s : List ℕ} {c : Counters} {ws : List ℕ} where
     pub used_room : c.words ≤ length w
     used_room = word_room F.holds
 
+    pub words_room : length ws ≤ length w - c.words → Room w c.words ws
+    words_room h = record { fits = omega (arith, used_room) }
+
   module _ {r : std.Option ℕ} (I : FoundIn w s c ws r) where
     -- what was found, in any arena that memory holds
     seen : (table : ℕ) (a : Arena) (x : Node) → Holds table w s c a → IsNode table (length a) ws x → option_of r ≡ find x a
@@ -112,15 +113,15 @@ module _ {w s : List ℕ} {c : Counters} {ws : List ℕ} where
     pub no_words : length w - c.words < length ws → Interns w s c ws w s (Err refusal.NoRoom)
     no_words h = answer_full (λ t a x H N b. omega (arith, (room_parts (length w) (length s) x a b).0, flat_more H x, ap length N.words, word_room H))
 
-    pub answer_new : 1 ≤ length s - c.nodes → length ws ≤ length w - c.words → {put : List ℕ} → put ≡ ws
-        → Interns w s c ws (put_mid c.words (c.words + length ws - c.words) w put) (set s c.nodes c.words) (Ok (c.nodes, record { nodes = c.nodes + 1; words = c.words + length ws }))
+    pub answer_new : 1 ≤ length s - c.nodes → length ws ≤ length w - c.words → {w' : List ℕ} → Pasted w c.words ws w'
+        → Interns w s c ws w' (set s c.nodes c.words) (Ok (c.nodes, record { nodes = c.nodes + 1; words = c.words + length ws }))
     unfolding reply_of
     answer_new h l P = record {
       is = λ t a x H N.
           let k = ap length N.words in
           let m = flat_more H x in
           finished (x ∷ a) (length w) (length s) H.nodes (omega (arith, H.nodes)) (omega arith)
-          (put_mid-paste c.words (c.words + length ws - c.words) w _ (encode x) (length ws) (P ∙ N.words) (omega arith) k ∙ ap (paste w c.words (encode x)) k ∙ words_more H x) (starts_more H x (omega arith))
+          (P.is ∙ ap (λ (v : List ℕ). paste w c.words v (length v)) N.words ∙ words_more H x) (starts_more H x (omega arith))
           ∙ sym (ap (reply_of w s c) (intern_new (length w) (length s) x a (not_there t a x H N) (parts_room (length w) (length s) x a (omega (arith, word_room H)) (omega (arith, H.nodes)))));
     }
 

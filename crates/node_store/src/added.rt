@@ -1,8 +1,20 @@
 // A node put behind the last one.
-ghost use Rattle.node_store.specs.Inner.Added.{Fresh, Absent, Interns};
+ghost use Rattle.node_store.specs.Inner.Added.{Room, Pasted, Fresh, Absent, Interns};
 
 use crate::stored::find;
 use types::{Counters, Refusal};
+
+// The words of `node` written from `at` on. Word by word: std's `copy_from_slice` calls `memmove`, and a host brings `memcpy` and
+// `memset` alone.
+fn put(words: &mut [u32], at: usize, node: &[u32])
+    requires { Room words.old at node.now }
+    ensures { Pasted words.old at node.now words.new }
+{
+    for i in 0..node.len() {
+        let k = at + i;
+        words[k] = node[i];
+    }
+}
 
 // Adds the node with these words, which the arena doesn't have. For callers that know the arena sound and the node well formed
 // and new: none of it is checked again.
@@ -25,7 +37,7 @@ pub fn add_node(
         return Err(Refusal::NoRoom);
     }
     starts[nodes] = used as u32;
-    words[used..used + node.len()].copy_from_slice(node);
+    put(words, used, node);
     let d = Counters {
         nodes: nodes + 1,
         words: used + node.len(),

@@ -1,4 +1,6 @@
 // The nodes that lent memory holds.
+ghost use Rattle.std.specs.Prelude.{◌≡◌};
+ghost use Rattle.types.specs.Same.{same_numbers};
 ghost use Rattle.node_store.specs.Inner.Stored.{InRange, NodeAt, Sought, IsThere, Later, AfterChildren, Searched, FoundIn, Ordered};
 
 use crate::children::child_words;
@@ -17,6 +19,22 @@ pub fn node_at<'a>(words: &'a [u32], starts: &[u32], c: Counters, n: usize) -> &
     &words[at..end]
 }
 
+// Whether two stretches have the same words. The first that differ end it, and most nodes with the same head differ early: `==` on
+// slices is a call that looks at many words at once, and took twice as long.
+fn same(a: &[u32], b: &[u32]) -> bool
+    ensures { result ≡ same_numbers a.now b.now }
+{
+    if a.len() != b.len() {
+        return false;
+    }
+    for i in 0..a.len() {
+        if a[i] != b[i] {
+            return false;
+        }
+    }
+    true
+}
+
 // Whether node n has the words of `node`. Most nodes differ in their heads, so those are compared first.
 pub fn is_there(words: &[u32], starts: &[u32], c: Counters, n: usize, node: &[u32]) -> bool
     requires { Sought words.now starts.now c n node.now }
@@ -26,7 +44,7 @@ pub fn is_there(words: &[u32], starts: &[u32], c: Counters, n: usize, node: &[u3
     if words[at] != node[0] {
         return false;
     }
-    node_at(words, starts, c, n) == node
+    same(node_at(words, starts, c, n), node)
 }
 
 // The higher of two numbers: one so far, and the one after m.

@@ -22,9 +22,9 @@ use Rattle.sheet_format.specs.declared.Answer.{Answer}
 use Rattle.sheet_format.proofs.Digits.{few_digits}
 
 -- ---- the pieces of a line
-pub refusal_written : {b b₁ b₂ b' : List ℕ} {m n r v : ℕ} (e : Refusal) → v ≡ number_of e → Writes b 0 (bytes "refused ") b₁ m → Writes b₁ m (decimal v) b₂ n → Writes b₂ n (10 ∷ []) b' r → Writes b 0 (refused_line e) b' r
+pub refusal_written : {b b₁ b₂ b' : List ℕ} {m n r : ℕ} (e : ℕ) → Writes b 0 (bytes "refused ") b₁ m → Writes b₁ m (decimal e) b₂ n → Writes b₂ n (10 ∷ []) b' r → Writes b 0 (refused_line e) b' r
 unfolding refused_line
-refusal_written {b₁ = b₁} {b₂ = b₂} {m = m} {n = n} e q W₁ W₂ W₃ = writes_then (writes_then W₁ (subst (λ (k : ℕ). Writes b₁ m (decimal k) b₂ n) q W₂)) W₃
+refusal_written e W₁ W₂ W₃ = writes_then (writes_then W₁ W₂) W₃
 
 pub type_written : {b b₁ b₂ b₃ b' : List ℕ} {k m n r : ℕ} (root passes : ℕ) (text : List ℕ)
     → Writes b 0 (decimal root ++ bytes " ") b₁ k → Writes b₁ k (decimal passes ++ bytes " ") b₂ m → Writes b₂ m text b₃ n → Writes b₃ n (10 ∷ []) b' r
@@ -36,7 +36,7 @@ type_written {b} {b₂ = b₂} {m = m} root passes text W₁ W₂ W₃ W₄ =
     writes_then (writes_then W W₃) W₄
 
 -- ---- how long it is
-pub refused_length : (e : Refusal) → length (refused_line e) ≤ 19
+pub refused_length : (e : Refusal) → length (refused_line (number_of e)) ≤ 19
 unfolding refused_line
 refused_length e = simp length-append (omega (arith, few_digits (number_of e) (omega (arith, number_few e))))
 
@@ -58,9 +58,9 @@ module _ {input b b' : List ℕ} {r : ℕ} (size : length b ≡ 65544) where
       record { count = p.0 ∙ ap length e; fits = omega (arith, p.0, W.long, size, h); bytes = p.1 ∙ ap (λ (l : List ℕ). l ++ drop r b) e }
 
   module _ {text : List ℕ} {v : Out Answer} where
-    pub line_refused : {e : Refusal} → AnswersSheet input text v → v ≡ Err e → Writes b 0 (refused_line e) b' r → WritesLine input b b' r
+    pub line_refused : {e : Refusal} {m : ℕ} → AnswersSheet input text v → v ≡ Err e → m ≡ number_of e → Writes b 0 (refused_line m) b' r → WritesLine input b b' r
     unfolding sheet_line_in line_of
-    line_refused {e} A q W = whole (ap line_of (sym (given A.is q))) (omega (arith, refused_length e)) W
+    line_refused {e} A q n W = whole (ap line_of (sym (given A.is q))) (omega (arith, refused_length e)) (subst (λ (k : ℕ). Writes b 0 (refused_line k) b' r) n W)
       where
         given : {z : Out Answer} {o : Out Outcome} → Gives text z o → z ≡ Err e → o ≡ Err e
         given (type a b c d) p = let z : ◌≡◌ {A = ℕ} 0 1 = cc in absurd (omega arith)

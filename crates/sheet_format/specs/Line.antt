@@ -2,7 +2,6 @@
 use Rattle.std.specs.Prelude.{ℕ, ◌≤◌, true, false, List, [], ◌∷◌, ◌++◌, length, drop, leb, ◌≡◌, Ok, Err}
 use Rattle.words.specs.declared.Layout.{Layout}
 use Rattle.words.specs.declared.Layout.TheVariants as layout
-use Rattle.types.specs.declared.refusal.Refusal.{Refusal}
 use Rattle.types.specs.declared.refusal.Refusal.TheVariants as refusal
 use Rattle.types.specs.Refusal.{number_of}
 use Rattle.types.specs.Out.{Out, ◌>>=◌}
@@ -48,15 +47,15 @@ unfoldable pub type_line : ℕ → ℕ → List ℕ → List ℕ
 unfolding decimal
 type_line root passes text = decimal root ++ bytes " " ++ decimal passes ++ bytes " " ++ text ++ (10 ∷ [])
 
--- `refused` and the number of the refusal
-unfoldable pub refused_line : Refusal → List ℕ
+-- `refused` and the number
+unfoldable pub refused_line : ℕ → List ℕ
 unfolding decimal
-refused_line e = bytes "refused " ++ decimal (number_of e) ++ (10 ∷ [])
+refused_line e = bytes "refused " ++ decimal e ++ (10 ∷ [])
 
 unfoldable pub line_of : Out Outcome → List ℕ
 unfolding type_line refused_line
 line_of (Ok v) = type_line v.root v.passes v.text
-line_of (Err e) = refused_line e
+line_of (Err e) = refused_line (number_of e)
 
 -- the line of the sheet with these bytes; that of an old sheet is what it was (02, A2)
 unfoldable pub sheet_line_in : Layout → List ℕ → List ℕ

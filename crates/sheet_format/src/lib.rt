@@ -36,11 +36,11 @@ fn append_decimal(line: &mut [u8], count: usize, n: u32) -> usize
 }
 
 // Writes the line of a refusal.
-pub fn write_refusal(line: &mut [u8], refusal: Refusal) -> usize
-    ensures { Writes line.old 0 (refused_line refusal) line.new result }
+pub fn write_refusal(line: &mut [u8], number: u32) -> usize
+    ensures { Writes line.old 0 (refused_line number) line.new result }
 {
     let count = append(line, 0, b"refused ");
-    let count = append_decimal(line, count, refusal.number());
+    let count = append_decimal(line, count, number);
     append(line, count, b"\n")
 }
 
@@ -127,6 +127,6 @@ pub fn sheet_line(input: &[u8], line: &mut [u8; 65544]) -> usize
             let length = answer.length;
             write_type(line, answer.root, answer.passes, &text[..length])
         }
-        Err(refusal) => write_refusal(line, refusal),
+        Err(refusal) => write_refusal(line, refusal.number()),
     }
 }

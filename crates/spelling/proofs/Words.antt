@@ -6,18 +6,25 @@ use mathlib.Core.List.{List, [], ◌∷◌}
 use lib.ListN.{length}
 use lib.Dec.{eqb}
 use borrow.Author.Tests.{ne_eqb, eqb-false}
-use Rattle.std.specs.Cmp.Lexicographic.{pointwise}
-use Rattle.std.proofs.lemmas.Bool.Decides.{same_from_decides, Decides-eqb}
-use Rattle.std.proofs.lemmas.Slice.Eq.{slice_eq-Decides}
+use Rattle.std.specs.Ordering.{is_eq}
+use Rattle.std.specs.declared.cmp.Ordering.{Ordering}
+use Rattle.std.specs.declared.cmp.Ordering.TheVariants.{Less, Equal, Greater}
 use Rattle.types.specs.Bytes.{bytes}
 use Rattle.types.specs.Same.{same_numbers}
-use Rattle.types.proofs.Tests.{numbers_true, numbers_if, numbers_not}
-use Rattle.names.specs.Table.{Name}
+use Rattle.types.proofs.Orders.{less_equal, equal_greater}
+use Rattle.types.proofs.Tests.{numbers_if, numbers_not}
+use Rattle.names.specs.Table.{Name, name_order}
+use Rattle.names.proofs.Numbers.{name_order_total, told_differs}
 use Rattle.spelling.specs.Spelling.{one_of, reserved_words, reserved}
 
--- ---- `==` on two names
-pub numbers_eq : (m n : Name) {r : Bool} → r ≡ pointwise eqb m n → r ≡ same_numbers m n
-numbers_eq m n {r} e = same_from_decides r (same_numbers m n) (slice_eq-Decides Decides-eqb m n r e) (numbers_true m n, numbers_if m n)
+-- ---- two names are the same exactly where they are told so
+pub told_same : (m n : Name) {o : Ordering} {r : Bool} → o ≡ name_order m n → r ≡ is_eq o → r ≡ same_numbers m n
+told_same m n {o} e q = q ∙ go o e
+  where
+    go : (p : Ordering) → p ≡ name_order m n → is_eq p ≡ same_numbers m n
+    go Less f = sym (numbers_not m n (told_differs m n (λ p. less_equal (f ∙ p))))
+    go Equal f = sym (numbers_if m n (name_order_total.equal m n (sym f)))
+    go Greater f = sym (numbers_not m n (told_differs m n (λ p. equal_greater (sym p ∙ sym f))))
 
 -- ---- only words as long as the name can be the same
 -- those that have k bytes

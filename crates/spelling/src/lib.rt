@@ -7,6 +7,8 @@ ghost use Rattle.std.specs.Prelude.{◌<◌, ◌≡◌, length, drop};
 ghost use Rattle.types.specs.Same.{same_numbers};
 ghost use Rattle.spelling.specs.Spelling.{letter, begins, continues, identifier, reserved, plain, backslashed};
 
+use names::compare;
+
 // The two ways to print a name.
 #[derive(Clone, Copy, Debug, PartialEq, Eq)]
 pub enum Spelling {
@@ -49,7 +51,7 @@ fn identifier(name: &[u8]) -> bool
 fn same(a: &[u8], b: &[u8]) -> bool
     ensures { result ≡ same_numbers a.now b.now }
 {
-    a == b
+    compare(a, b).is_eq()
 }
 
 // Whether the name is a reserved word. Only words as long as the name are compared.

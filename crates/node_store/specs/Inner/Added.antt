@@ -1,5 +1,6 @@
 -- What the functions that add a node ask and answer.
-use Rattle.std.specs.Prelude.{ℕ, ◌≡◌, List, length, Result, None}
+use Rattle.std.specs.Prelude.{ℕ, ◌+◌, ◌≤◌, ◌≡◌, List, length, Result, None}
+use Rattle.std.proofs.Math.Seq.{paste}
 use Rattle.types.specs.Node.{Node, IsNode}
 use Rattle.types.specs.Arena.{Arena}
 use Rattle.types.specs.Memory.{Holds}
@@ -8,6 +9,14 @@ use Rattle.types.specs.declared.refusal.Refusal.{Refusal}
 use Rattle.types.specs.declared.Counters.{Counters}
 use Rattle.node_store.specs.Inner.Stored.{FoundIn}
 use Rattle.node_store.specs.Intern.{intern, left}
+
+-- the words of a node have room from a place on
+pub record Room (w : List ℕ) (at : ℕ) (ws : List ℕ) : Type 0 where
+  pub fits : at + length ws ≤ length w
+
+-- they stand there, and no other word is changed
+pub record Pasted (w : List ℕ) (at : ℕ) (ws : List ℕ) (w' : List ℕ) : Type 0 where
+  pub is : w' ≡ paste w at ws (length ws)
 
 -- memory that holds some arena, and words of a node that may be added to it
 pub record Fresh (w s : List ℕ) (c : Counters) (ws : List ℕ) : Type 0 where

@@ -1,5 +1,4 @@
 -- A node with another head is another node; with the same head all its words are compared.
-use Rattle.types.proofs.Tests.{numbers_eq}
 use Rattle.node_store.proofs.Stretches.{in_starts, start_fits, in_words, other_head, same_node}
 use Rattle.node_store.proofs.stored.is_there.Goals as goal
 
@@ -16,4 +15,4 @@ pub returns-then-words-at : goal.returns-then-words-at
 returns-then-words-at c = search other_head
 
 pub returns : goal.returns
-returns c = search (same_node, numbers_eq)
+returns c = search same_node
