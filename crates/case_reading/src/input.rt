@@ -1,11 +1,10 @@
 // A reader's bytes in large pieces, and the cases in them.
 use program_io::read_full;
-use std::alloc::Global;
 use std::io;
 use std::io::{Read, Write};
 
 // How many bytes the buffer has.
-const BUFFER: usize = 1572864;
+pub const BUFFER: usize = 1572864;
 
 // No case is longer: two hosts that lend as many words as a case can say, with tables of 66,000 bytes, are 1,180,609 bytes.
 const LONGEST: usize = 1310720;
@@ -38,14 +37,13 @@ fn refill<R: Read>(reader: &mut R, buffer: &mut [u8], input: Input) -> io::Resul
 
 // Case after case: an answer is made from what is not yet used, and says how many bytes of that it leaves, or that there is no case.
 pub fn answer_all<R: Read, W: Write, F: FnMut(&[u8], &mut W) -> io::Result<Option<usize>>>(
-    alloc: Global,
     reader: &mut R,
+    buffer: &mut [u8],
     out: &mut W,
     mut answer: F,
 ) -> io::Result<()>
     requires { (state : _) (unused : _) (line : _) → F.pre state unused line }
 {
-    let mut buffer = vec![in alloc; 0u8; BUFFER]?;
     let mut input = Input {
         at: 0,
         end: 0,
@@ -53,7 +51,7 @@ pub fn answer_all<R: Read, W: Write, F: FnMut(&[u8], &mut W) -> io::Result<Optio
     };
     // Nothing says that input ends, so the cases are counted.
     for _ in 0..u64::MAX {
-        input = refill(reader, &mut buffer, input)?;
+        input = refill(reader, buffer, input)?;
         let unused = buffer.get(input.at..input.end).unwrap_or(&[]);
         let Some(left) = answer(unused, out)? else {
             break;

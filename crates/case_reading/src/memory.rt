@@ -1,37 +1,23 @@
-// The memory that case after case lends.
-use crate::case::{Lent, Memory};
-use std::alloc::{AllocError, Global};
+// The memory that case after case lends, in buffers that a program has taken.
+use crate::case::Lent;
 
 // As many words as a case can lend.
-const WORDS: usize = 65535;
+pub const WORDS: usize = 65535;
 
-// Words and starts, as many as are lent.
+// The buffers that words and starts are lent in.
 #[derive(Drop)]
 pub struct Room {
     pub words: Vec<u32>,
     pub starts: Vec<u32>,
 }
 
-// Makes the words those that are lent.
-pub fn load(words: &mut Vec<u32>, lent: Lent<'_>) -> Result<(), AllocError> {
-    words.clear();
-    for word in lent.given {
-        words.push(u32::from_be_bytes(*word))?;
+// The words that are lent, as many as the buffer has room for, put at its front.
+pub fn load<'a>(buffer: &'a mut [u32], lent: Lent<'_>) -> &'a mut [u32] {
+    let count = lent.count.min(buffer.len());
+    let words = &mut buffer[..count];
+    words.fill(0);
+    for (word, given) in words.iter_mut().zip(lent.given) {
+        *word = u32::from_be_bytes(*given);
     }
-    words.resize(lent.count, 0)
-}
-
-impl Room {
-    // Nothing that is lent asks for more memory than is taken here.
-    pub fn new(alloc: Global) -> Result<Self, AllocError> {
-        Ok(Room {
-            words: Vec::with_capacity(alloc, WORDS)?,
-            starts: Vec::with_capacity(alloc, WORDS)?,
-        })
-    }
-
-    pub fn load(&mut self, memory: Memory<'_>) -> Result<(), AllocError> {
-        load(&mut self.words, memory.words)?;
-        load(&mut self.starts, memory.starts)
-    }
+    words
 }

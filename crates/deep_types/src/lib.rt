@@ -1,8 +1,7 @@
-// Arenas put together node by node without the library, for the programs that ask it about them: types that are deep or have a node
-// at very many places, and a pair of sets.
+// Arenas put together node by node without the library, in memory that is lent, for the programs that ask it about them: types that
+// are deep or have a node at very many places, and a pair of sets.
 #![tactic(auto)]
 
-use std::alloc::{AllocError, Global};
 use types::Counters;
 use types::arc_ty::Head;
 use types::attrset::field_word;
@@ -11,9 +10,9 @@ use types::attrset::field_word;
 pub const TABLE: [u8; 4] = [1, b'p', 1, b'q'];
 
 // As many nodes as an arena can have, and as many words.
-const NODES: usize = 4096;
+pub const NODES: usize = 4096;
 
-const WORDS: usize = 16384;
+pub const WORDS: usize = 16384;
 
 // The node after another in a chain.
 #[derive(Clone, Copy)]
@@ -68,11 +67,11 @@ pub fn chains() -> [Chain; 11] {
     ]
 }
 
-// Nodes, and the memory that is lent with them.
+// The nodes that are put into lent memory, whose words and starts behind them are zero.
 #[derive(Drop)]
-pub struct Arena {
-    pub words: Vec<u32>,
-    pub starts: Vec<u32>,
+pub struct Arena<'a> {
+    pub words: &'a mut [u32],
+    pub starts: &'a mut [u32],
     pub counters: Counters,
 }
 
@@ -94,29 +93,47 @@ fn field(name: usize, child: u32) -> u32 {
     }
 }
 
-impl Arena {
-    // No node, and no memory.
-    pub fn new(alloc: Global) -> Self {
+impl<'a> Arena<'a> {
+    // No node yet; the memory becomes zero.
+    pub fn new(words: &'a mut [u32], starts: &'a mut [u32]) -> Self {
+        words.fill(0);
+        starts.fill(0);
         Arena {
-            words: Vec::new(alloc),
-            starts: Vec::new(alloc),
+            words,
+            starts,
             counters: Counters { nodes: 0, words: 0 },
         }
     }
 
-    // One more node, behind the others.
-    pub fn put(&mut self, kind: u32, body: &[u32]) -> Result<(), AllocError> {
-        let start = u32::try_from(self.words.len()).unwrap_or(u32::MAX);
-        self.starts.push(start)?;
-        self.words.push(head(kind, body.len()))?;
-        self.words.extend_from_slice(body)
+    // One more node, behind the others; none where it has no room.
+    pub fn put(&mut self, kind: u32, body: &[u32]) {
+        let Counters { nodes, words } = self.counters;
+        let end = words.saturating_add(1).saturating_add(body.len());
+        let Ok(at) = u32::try_from(words) else {
+            return;
+        };
+        let Some(start) = self.starts.get_mut(nodes) else {
+            return;
+        };
+        let Some(node) = self.words.get_mut(words..end) else {
+            return;
+        };
+        *start = at;
+        let head = [head(kind, body.len())];
+        for (word, value) in node.iter_mut().zip(head.iter().chain(body)) {
+            *word = *value;
+        }
+        self.counters = Counters {
+            nodes: nodes + 1,
+            words: end,
+        };
     }
 
-    fn put_step(&mut self, step: Step, newest: u32) -> Result<(), AllocError> {
+    fn put_step(&mut self, step: Step, newest: u32) {
         match step {
             Step::Child(even, odd) => {
                 let kind = if newest % 2 == 0 { even } else { odd };
-                self.put(kind, &[newest])
+                self.put(kind, &[newest]);
             }
             Step::Field(kind) => self.put(kind, &[field(1, newest)]),
             Step::Both(kind) => self.put(kind, &[newest, newest]),
@@ -125,32 +142,16 @@ impl Arena {
         }
     }
 
-    // The nodes that are put, in so many words and starts; these are zero behind them.
-    pub fn lent(mut self, words: usize, starts: usize) -> Result<Self, AllocError> {
-        self.counters = Counters {
-            nodes: self.starts.len(),
-            words: self.words.len(),
-        };
-        self.words.resize(words, 0)?;
-        self.starts.resize(starts, 0)?;
-        Ok(self)
-    }
-
-    // The nodes that are put, in as much memory as an arena can have.
-    pub fn full(self) -> Result<Self, AllocError> {
-        self.lent(WORDS, NODES)
-    }
-
     // The closed set with fields p and q, node 5: p is F[a, int], node 3, and q is node 3 or F[a, bool], node 4.
-    pub fn pair(alloc: Global, q: u32) -> Result<Self, AllocError> {
-        let mut arena = Arena::new(alloc);
-        arena.put(Head::TY_VAR, &[0])?;
-        arena.put(Head::PRIMITIVE, &[2])?;
-        arena.put(Head::PRIMITIVE, &[1])?;
-        arena.put(Head::LAMBDA, &[0, 1])?;
-        arena.put(Head::LAMBDA, &[0, 2])?;
-        arena.put(Head::ATTR_SET, &[field(0, 3), field(1, q)])?;
-        arena.full()
+    pub fn pair(words: &'a mut [u32], starts: &'a mut [u32], q: u32) -> Self {
+        let mut arena = Arena::new(words, starts);
+        arena.put(Head::TY_VAR, &[0]);
+        arena.put(Head::PRIMITIVE, &[2]);
+        arena.put(Head::PRIMITIVE, &[1]);
+        arena.put(Head::LAMBDA, &[0, 1]);
+        arena.put(Head::LAMBDA, &[0, 2]);
+        arena.put(Head::ATTR_SET, &[field(0, 3), field(1, q)]);
+        arena
     }
 
     // What a question about the type of a root is answered, under the names p and q.
@@ -161,21 +162,21 @@ impl Arena {
     ) -> T
         requires { F.IsAlwaysCallable question }
     {
-        question(&TABLE, &self.words, &self.starts, self.counters, root)
+        question(&TABLE, self.words, self.starts, self.counters, root)
     }
 }
 
 impl Chain {
     // The chain; its root is node 4095.
-    pub fn arena(self, alloc: Global) -> Result<Arena, AllocError> {
-        let mut arena = Arena::new(alloc);
-        arena.put(Head::TY_VAR, &[0])?;
+    pub fn arena<'a>(self, words: &'a mut [u32], starts: &'a mut [u32]) -> Arena<'a> {
+        let mut arena = Arena::new(words, starts);
+        arena.put(Head::TY_VAR, &[0]);
         if self.int {
-            arena.put(Head::PRIMITIVE, &[2])?;
+            arena.put(Head::PRIMITIVE, &[2]);
         }
         for newest in u32::from(self.int)..4095 {
-            arena.put_step(self.step, newest)?;
+            arena.put_step(self.step, newest);
         }
-        arena.full()
+        arena
     }
 }

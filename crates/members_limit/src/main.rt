@@ -116,10 +116,10 @@ fn in_each_room(rt: &impl Print, kind: u32, members: &str, root: &[u32]) -> io::
         (", one node left", 2, 1),
     ];
     for (room, words, starts) in rooms {
+        print!(rt; "{list} of {members}{room}: ")?;
         let mut nodes = Nodes::new(kind);
         nodes.put(root);
-        let answer = Answer(nodes.simplify(words, starts).map(told));
-        println!(rt; "{list} of {members}{room}: {answer}")?;
+        println!(rt; "{}", Answer(nodes.simplify(words, starts).map(told)))?;
     }
     Ok(())
 }

@@ -4,7 +4,7 @@ use answer_writing::answer::{Answer, Both, Good, stored};
 use answer_writing::memory::{put_bytes, put_memory};
 use arena::intern;
 use case_reading::case::{Host, Lent, Memory};
-use case_reading::memory::{Room, load};
+use case_reading::memory::{Room, WORDS, load};
 use compact::compact;
 use renumber::{normalize_replacing_unknown, normalize_vars};
 use set_ops::normalize_set_ops;
@@ -17,22 +17,25 @@ use std::io;
 use std::io::Write;
 use types::{Counters, Refusal};
 
-// The memory that every case uses in turn.
+// The memory that every case uses in turn. A node that is to be stored lies in the words of the target, which the call has no other
+// use for.
 #[derive(Drop)]
 pub struct Rooms {
     room: Room,
     target: Room,
-    node: Vec<u32>,
-    sheet: Vec<u8>,
 }
 
 impl Rooms {
     pub fn new(alloc: Global) -> Result<Self, AllocError> {
         Ok(Rooms {
-            room: Room::new(alloc)?,
-            target: Room::new(alloc)?,
-            node: Vec::new(alloc),
-            sheet: Vec::with_capacity(alloc, SHEET)?,
+            room: Room {
+                words: vec![in alloc; 0; WORDS]?,
+                starts: vec![in alloc; 0; WORDS]?,
+            },
+            target: Room {
+                words: vec![in alloc; 0; WORDS]?,
+                starts: vec![in alloc; 0; WORDS]?,
+            },
         })
     }
 }
@@ -45,15 +48,11 @@ fn change<
 >(out: &mut W, room: &mut Room, host: Host<'_>, call: F) -> io::Result<()>
     requires { F.IsAlwaysCallable call }
 {
-    room.load(host.memory)?;
-    let answer = call(
-        host.table,
-        &mut room.words,
-        &mut room.starts,
-        host.memory.counters,
-    );
+    let words = load(&mut room.words, host.memory.words);
+    let starts = load(&mut room.starts, host.memory.starts);
+    let answer = call(host.table, words, starts, host.memory.counters);
     write!(out, "{}", Answer(answer.map(Good)))?;
-    put_memory(out, &room.words, &room.starts)?;
+    put_memory(out, words, starts)?;
     writeln!(out)
 }
 
@@ -70,16 +69,20 @@ fn put_copy<W: Write>(
     root: u32,
     target: Memory<'_>,
 ) -> io::Result<()> {
-    rooms.room.load(host.memory)?;
-    rooms.target.load(target)?;
+    let room = &mut rooms.room;
+    let other = &mut rooms.target;
+    let words = load(&mut room.words, host.memory.words);
+    let starts = load(&mut room.starts, host.memory.starts);
+    let target_words = load(&mut other.words, target.words);
+    let target_starts = load(&mut other.starts, target.starts);
     let r = compact(
         host.table,
-        &rooms.room.words,
-        &rooms.room.starts,
+        words,
+        starts,
         host.memory.counters,
         root,
-        &mut rooms.target.words,
-        &mut rooms.target.starts,
+        target_words,
+        target_starts,
         target.counters,
     );
     let c = r.counters;
@@ -90,7 +93,7 @@ fn put_copy<W: Write>(
         c.nodes,
         c.words
     )?;
-    put_memory(out, &rooms.target.words, &rooms.target.starts)?;
+    put_memory(out, target_words, target_starts)?;
     writeln!(out)
 }
 
@@ -103,9 +106,11 @@ fn put_line<W: Write>(out: &mut W, sheet: &[u8]) -> io::Result<()> {
 }
 
 // What the converter answered, the bytes that it left and, where they are a sheet, its line.
-fn put_converted<W: Write>(out: &mut W, sheet: &mut Vec<u8>, old: &[u8]) -> io::Result<()> {
-    sheet.clear();
-    sheet.extend_from_slice(old)?;
+fn put_converted<W: Write>(out: &mut W, old: &[u8]) -> io::Result<()> {
+    let mut bytes = [0u8; SHEET];
+    let count = old.len().min(SHEET);
+    let sheet = &mut bytes[..count];
+    sheet.copy_from_slice(&old[..count]);
     match convert_sheet(sheet) {
         Ok(()) => {
             write!(out, "ok")?;
@@ -128,8 +133,8 @@ fn put_stored<W: Write>(
     host: Host<'_>,
     node: Lent<'_>,
 ) -> io::Result<()> {
-    load(&mut rooms.node, node)?;
-    let node = &rooms.node;
+    let target = &mut rooms.target;
+    let node = &*load(&mut target.words, node);
     change(out, &mut rooms.room, host, |table, words, starts, c| {
         intern(table, words, starts, c, node).map(stored)
     })
@@ -159,6 +164,6 @@ pub fn answer<W: Write>(call: Call<'_>, rooms: &mut Rooms, out: &mut W) -> io::R
             normalize_set_ops(table, words, starts, c, root).map(stored)
         }),
         Call::Compact(host, root, target) => put_copy(out, rooms, host, root, target),
-        Call::ConvertSheet(old) => put_converted(out, &mut rooms.sheet, old),
+        Call::ConvertSheet(old) => put_converted(out, old),
     }
 }

@@ -8,14 +8,15 @@ mod call;
 use answers::{Rooms, answer};
 use call::read;
 use case_reading::case::Case;
-use case_reading::input::answer_all;
+use case_reading::input::{BUFFER, answer_all};
 use std::io;
 use std::io::BufWriter;
 
 fn main(rt: HostRuntime) -> io::Result<()> {
+    let mut buffer = vec![in rt.alloc(); 0u8; BUFFER]?;
     let mut rooms = Rooms::new(rt.alloc())?;
     let mut out = BufWriter::new(rt.alloc(), io::writer(&rt))?;
-    answer_all(rt.alloc(), &mut rt.reader(), &mut out, |unused, out| {
+    answer_all(&mut rt.reader(), &mut buffer, &mut out, |unused, out| {
         let mut case = Case::new(unused);
         let Some(call) = read(&mut case) else {
             return Ok(None);

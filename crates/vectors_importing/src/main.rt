@@ -5,8 +5,8 @@
 use answer_writing::answer::{Answer, Good, stored};
 use answer_writing::memory::put_memory;
 use case_reading::case::{Case, Host};
-use case_reading::input::answer_all;
-use case_reading::memory::Room;
+use case_reading::input::{BUFFER, answer_all};
+use case_reading::memory::{Room, WORDS, load};
 use import::import_from_arena;
 use std::io;
 use std::io::{BufWriter, Write};
@@ -38,30 +38,41 @@ fn answer<W: Write>(
     target: &mut Room,
     out: &mut W,
 ) -> io::Result<()> {
-    source.load(import.source.memory)?;
-    target.load(import.target.memory)?;
+    let lent = import.source.memory;
+    let words = load(&mut source.words, lent.words);
+    let starts = load(&mut source.starts, lent.starts);
+    let lent = import.target.memory;
+    let target_words = load(&mut target.words, lent.words);
+    let target_starts = load(&mut target.starts, lent.starts);
     let answer = import_from_arena(
         import.source.table,
-        &source.words,
-        &source.starts,
+        words,
+        starts,
         import.source.memory.counters,
         import.root,
         import.target.table,
-        &mut target.words,
-        &mut target.starts,
+        target_words,
+        target_starts,
         import.target.memory.counters,
     );
     write!(out, "{}", Answer(answer.map(stored).map(Good)))?;
-    put_memory(out, &target.words, &target.starts)?;
+    put_memory(out, target_words, target_starts)?;
     writeln!(out)
 }
 
 // The memory that every case uses in turn.
 fn main(rt: HostRuntime) -> io::Result<()> {
-    let mut source = Room::new(rt.alloc())?;
-    let mut target = Room::new(rt.alloc())?;
+    let mut buffer = vec![in rt.alloc(); 0u8; BUFFER]?;
+    let mut source = Room {
+        words: vec![in rt.alloc(); 0; WORDS]?,
+        starts: vec![in rt.alloc(); 0; WORDS]?,
+    };
+    let mut target = Room {
+        words: vec![in rt.alloc(); 0; WORDS]?,
+        starts: vec![in rt.alloc(); 0; WORDS]?,
+    };
     let mut out = BufWriter::new(rt.alloc(), io::writer(&rt))?;
-    answer_all(rt.alloc(), &mut rt.reader(), &mut out, |unused, out| {
+    answer_all(&mut rt.reader(), &mut buffer, &mut out, |unused, out| {
         let mut case = Case::new(unused);
         let Some(import) = read(&mut case) else {
             return Ok(None);

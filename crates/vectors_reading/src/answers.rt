@@ -3,10 +3,10 @@ use crate::call::{Call, TEXT, Type};
 use crate::texts::{UNTOUCHED, put_written};
 use answer_writing::answer::{Answer, Both, Good, yes};
 use answer_writing::memory::put_list;
-use case_reading::memory::Room;
+use case_reading::memory::{Room, WORDS, load};
 use display::{display, display_nix};
 use equal::structurally_eq;
-use free_vars::{VarList, free_type_vars};
+use free_vars::free_type_vars;
 use name_lookup::{Position, find_name};
 use names::{Stretch, check_names, name_stretch};
 use questions::lambdas::has_shared_tyvar_across_lambda_params;
@@ -32,9 +32,15 @@ pub struct Rooms {
 impl Rooms {
     pub fn new(alloc: Global) -> Result<Self, AllocError> {
         Ok(Rooms {
-            room: Room::new(alloc)?,
-            other: Room::new(alloc)?,
-            text: Vec::with_capacity(alloc, TEXT)?,
+            room: Room {
+                words: vec![in alloc; 0; WORDS]?,
+                starts: vec![in alloc; 0; WORDS]?,
+            },
+            other: Room {
+                words: vec![in alloc; 0; WORDS]?,
+                starts: vec![in alloc; 0; WORDS]?,
+            },
+            text: vec![in alloc; 0; TEXT]?,
         })
     }
 }
@@ -74,14 +80,19 @@ fn found(position: Position) -> Both<&'static str, u32> {
     Both(word, position.place)
 }
 
-// How many variables there are, and these.
-fn put_variables<W: Write>(out: &mut W, answer: Result<VarList, Refusal>) -> io::Result<()> {
-    match answer {
+// The free variables of a type: how many there are, and these. The answer's 16 KiB stay where the call leaves them.
+#[inline(never)]
+fn put_variables<W: Write>(out: &mut W, room: &mut Room, t: Type<'_>) -> io::Result<()> {
+    let memory = t.host.memory;
+    let words = load(&mut room.words, memory.words);
+    let starts = load(&mut room.starts, memory.starts);
+    let answer = free_type_vars(t.host.table, words, starts, memory.counters, t.root);
+    match &answer {
         Ok(list) => {
             write!(out, "{}", Good(list.count))?;
             put_list(out, &list.vars, list.count)
         }
-        Err(refusal) => write!(out, "{}", Answer::<u32>(Err(refusal))),
+        Err(refusal) => write!(out, "{}", Answer::<u32>(Err(*refusal))),
     }
 }
 
@@ -90,18 +101,13 @@ fn ask<T, F: FnOnce(&[u8], &[u32], &[u32], Counters, u32) -> Result<T, Refusal>>
     room: &mut Room,
     t: Type<'_>,
     question: F,
-) -> io::Result<Result<T, Refusal>>
+) -> Result<T, Refusal>
     requires { F.IsAlwaysCallable question }
 {
     let memory = t.host.memory;
-    room.load(memory)?;
-    Ok(question(
-        t.host.table,
-        &room.words,
-        &room.starts,
-        memory.counters,
-        t.root,
-    ))
+    let words = load(&mut room.words, memory.words);
+    let starts = load(&mut room.starts, memory.starts);
+    question(t.host.table, words, starts, memory.counters, t.root)
 }
 
 // The answer yes or no to a question about a type.
@@ -113,25 +119,29 @@ fn decide<W: Write, F: FnOnce(&[u8], &[u32], &[u32], Counters, u32) -> Result<bo
 ) -> io::Result<()>
     requires { F.IsAlwaysCallable question }
 {
-    put_answer(out, ask(room, t, question)?.map(yes))
+    put_answer(out, ask(room, t, question).map(yes))
 }
 
 // Whether two types are structurally equal.
-fn equal(rooms: &mut Rooms, t: Type<'_>, other: Type<'_>) -> io::Result<Result<bool, Refusal>> {
-    rooms.room.load(t.host.memory)?;
-    rooms.other.load(other.host.memory)?;
-    Ok(structurally_eq(
+fn equal(rooms: &mut Rooms, t: Type<'_>, other: Type<'_>) -> Result<bool, Refusal> {
+    let room = &mut rooms.room;
+    let words = load(&mut room.words, t.host.memory.words);
+    let starts = load(&mut room.starts, t.host.memory.starts);
+    let room = &mut rooms.other;
+    let other_words = load(&mut room.words, other.host.memory.words);
+    let other_starts = load(&mut room.starts, other.host.memory.starts);
+    structurally_eq(
         t.host.table,
-        &rooms.room.words,
-        &rooms.room.starts,
+        words,
+        starts,
         t.host.memory.counters,
         t.root,
         other.host.table,
-        &rooms.other.words,
-        &rooms.other.starts,
+        other_words,
+        other_starts,
         other.host.memory.counters,
         other.root,
-    ))
+    )
 }
 
 // How the node of a type stands to another node in the same memory.
@@ -143,7 +153,7 @@ fn put_node_order<W: Write>(
 ) -> io::Result<()> {
     let order = ask(room, t, |table, words, starts, c, root| {
         arena::compare(table, words, starts, c, root, other)
-    })?;
+    });
     put_answer(out, order.map(order_word))
 }
 
@@ -156,7 +166,7 @@ pub fn answer<W: Write>(call: Call<'_>, rooms: &mut Rooms, out: &mut W) -> io::R
         Call::Display(t, lent) => put_written(out, rooms, t, lent, 0, display),
         Call::CheckNames(table) => put_answer(out, check_names(table).map(Good)),
         Call::CompareNames(a, b) => write!(out, "{}", order_word(names::compare(a, b))),
-        Call::FreeTypeVars(t) => put_variables(out, ask(room, t, free_type_vars)?),
+        Call::FreeTypeVars(t) => put_variables(out, room, t),
         Call::NeedsVarNormalization(t) => decide(out, room, t, needs_var_normalization),
         Call::HasTypeVars(t) => decide(out, room, t, has_type_vars),
         Call::ContainsBareTyvar(t) => decide(out, room, t, contains_bare_tyvar),
@@ -166,9 +176,9 @@ pub fn answer<W: Write>(call: Call<'_>, rooms: &mut Rooms, out: &mut W) -> io::R
             t,
             has_shared_tyvar_across_lambda_params,
         ),
-        Call::UnwrapNamed(t) => put_answer(out, ask(room, t, unwrap_named)?.map(Good)),
-        Call::StructurallyEq(t, other) => put_answer(out, equal(rooms, t, other)?.map(yes)),
-        Call::CountReachable(t) => put_answer(out, ask(room, t, count_reachable)?.map(Good)),
+        Call::UnwrapNamed(t) => put_answer(out, ask(room, t, unwrap_named).map(Good)),
+        Call::StructurallyEq(t, other) => put_answer(out, equal(rooms, t, other).map(yes)),
+        Call::CountReachable(t) => put_answer(out, ask(room, t, count_reachable).map(Good)),
         Call::WriteSheet(t, lent) => put_written(out, rooms, t, lent, UNTOUCHED, write_sheet),
         Call::NameStretch(table, number) => put_answer(
             out,

@@ -3,6 +3,7 @@ use crate::answers::Rooms;
 use crate::call::Type;
 use answer_writing::answer::{Answer, Good};
 use answer_writing::memory::put_bytes;
+use case_reading::memory::load;
 use std::io;
 use std::io::Write;
 use types::{Counters, Refusal};
@@ -42,20 +43,15 @@ pub fn put_written<
     let memory = t.host.memory;
     let room = &mut rooms.room;
     let text = &mut rooms.text;
-    room.load(memory)?;
-    text.clear();
-    text.resize(lent, UNTOUCHED)?;
-    let answer = write(
-        t.host.table,
-        &room.words,
-        &room.starts,
-        memory.counters,
-        t.root,
-        text,
-    );
+    let words = load(&mut room.words, memory.words);
+    let starts = load(&mut room.starts, memory.starts);
+    let count = lent.min(text.len());
+    let text = &mut text[..count];
+    text.fill(UNTOUCHED);
+    let answer = write(t.host.table, words, starts, memory.counters, t.root, text);
     write!(out, "{}", Answer(answer.map(Good)))?;
     if let Ok(length) = answer {
-        put_bytes(out, text.as_slice().get(..length).unwrap_or(&[]))?;
+        put_bytes(out, text.get(..length).unwrap_or(&[]))?;
     }
     if left_right(text, answer, too_long) {
         return Ok(());

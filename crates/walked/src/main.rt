@@ -3,7 +3,7 @@
 #![tactic(auto)]
 
 use answer_writing::answer::{Both, Good, stored, tell, yes};
-use deep_types::{Arena, TABLE, chains};
+use deep_types::{Arena, NODES, TABLE, WORDS, chains};
 use display::display;
 use free_vars::{VarList, free_type_vars};
 use questions::lambdas::has_shared_tyvar_across_lambda_params;
@@ -16,7 +16,7 @@ use types::Refusal;
 use walks::reach::count_reachable;
 
 // The questions that are answered in one word or number.
-fn ask(rt: &impl Print, shape: &str, arena: &Arena, root: u32) -> io::Result<()> {
+fn ask(rt: &impl Print, shape: &str, arena: &Arena<'_>, root: u32) -> io::Result<()> {
     tell(
         rt,
         shape,
@@ -61,13 +61,17 @@ fn list(rt: &impl Print, shape: &str, answer: Result<VarList, Refusal>) -> io::R
 }
 
 // The length of the text, and how it begins.
-fn print(
-    rt: &impl Print,
-    shape: &str,
-    answer: Result<usize, Refusal>,
-    text: &[u8],
-) -> io::Result<()> {
+fn print(rt: &impl Print, shape: &str, arena: &Arena<'_>, root: u32) -> io::Result<()> {
     let call = "display";
+    let mut text = [0u8; 65536];
+    let answer = display(
+        &TABLE,
+        arena.words,
+        arena.starts,
+        arena.counters,
+        root,
+        &mut text,
+    );
     match answer {
         Ok(length) => {
             print!(rt; "{shape}, {call}: ok {length} ")?;
@@ -85,51 +89,25 @@ fn told(after: Simplified) -> Good<Both<u32, Both<u32, Both<usize, usize>>>> {
 }
 
 // All calls; the one that changes memory comes last.
-fn ask_all(
-    rt: &impl Print,
-    shape: &str,
-    mut arena: Arena,
-    root: u32,
-    text: &mut [u8],
-) -> io::Result<()> {
+fn ask_all(rt: &impl Print, shape: &str, arena: Arena<'_>, root: u32) -> io::Result<()> {
     ask(rt, shape, &arena, root)?;
     list(rt, shape, arena.ask(root, free_type_vars))?;
-    let answer = display(
-        &TABLE,
-        &arena.words,
-        &arena.starts,
-        arena.counters,
-        root,
-        text,
-    );
-    print(rt, shape, answer, text)?;
-    let answer = simplify(
-        &TABLE,
-        &mut arena.words,
-        &mut arena.starts,
-        arena.counters,
-        root,
-    );
+    print(rt, shape, &arena, root)?;
+    let Arena {
+        words,
+        starts,
+        counters,
+    } = arena;
+    let answer = simplify(&TABLE, words, starts, counters, root);
     tell(rt, shape, "simplify", answer.map(told))
 }
 
 fn main(rt: HostRuntime) -> io::Result<()> {
-    let mut text = vec![in rt.alloc(); 0u8; 65536]?;
+    let words = &mut [0; WORDS];
+    let starts = &mut [0; NODES];
     for chain in chains() {
-        ask_all(&rt, chain.name, chain.arena(rt.alloc())?, 4095, &mut text)?;
+        ask_all(&rt, chain.name, chain.arena(words, starts), 4095)?;
     }
-    ask_all(
-        &rt,
-        "one lambda twice",
-        Arena::pair(rt.alloc(), 3)?,
-        5,
-        &mut text,
-    )?;
-    ask_all(
-        &rt,
-        "two lambdas",
-        Arena::pair(rt.alloc(), 4)?,
-        5,
-        &mut text,
-    )
+    ask_all(&rt, "one lambda twice", Arena::pair(words, starts, 3), 5)?;
+    ask_all(&rt, "two lambdas", Arena::pair(words, starts, 4), 5)
 }
